@@ -1,4 +1,5 @@
 -- Laws of answers: what a report or a refusal comes from, and what the code answers and leaves in the memory. Assumes nothing.
+use Rattle.std.specs.Prelude.{Err, Ok, Result}
 use mathlib.Core.Path.{◌≡◌, refl, ap, ◌∙◌}
 use mathlib.Core.Bool.{Bool, true, false, cond}
 use mathlib.Core.List.{List, ◌++◌}
@@ -13,8 +14,6 @@ use Rattle.refusals.specs.declared.Refusal.TheVariants.{ReportMemory}
 use Rattle.refusals.specs.Refusals.{place}
 use Rattle.file_format.specs.Routine.{Routine, Reading}
 use Rattle.file_format.specs.Routine as readings
-use Rattle.answers.specs.declared.Answer as code
-use Rattle.answers.specs.declared.Answer.TheVariants.{Reported, Refused}
 use Rattle.answers.specs.Answers.{Answer, reported, refused, lending, of_reading, memory, answer_of, report_length, Delivers}
 
 -- an answer is of one case
@@ -86,17 +85,17 @@ module _ (f : Routine → Answer) (m : Reading) (limit n : ℕ) (h : limit ≤ n
 -- ---- the answer and the memory
 
 pub gives-report : (a : Answer) (bs : List ℕ) → a ≡ reported bs → (n : ℕ) → n ≡ length bs → (former out : List ℕ) → out ≡ bs ++ drop (length bs) former
-    → (Reported n ≡ answer_of a) × (out ≡ memory a former)
+    → (Ok n ≡ answer_of a) × (out ≡ memory a former)
 unfolding answer_of memory
 gives-report a bs e n h former out m = (rw (e, h) refl, rw e m)
 
-pub gives-refusal : (a : Answer) (x : Refusal) → a ≡ refused x → (former : List ℕ) → (Refused x ≡ answer_of a) × (former ≡ memory a former)
+pub gives-refusal : (a : Answer) (x : Refusal) → a ≡ refused x → (former : List ℕ) → (Err x ≡ answer_of a) × (former ≡ memory a former)
 unfolding answer_of memory
 gives-refusal a x e former = (rw e refl, rw e refl)
 
 -- what holds of the bytes of every report holds of those that are told
 pub delivers : (P : List ℕ → Type 0) (a : Answer) → ((bs : List ℕ) → a ≡ reported bs → P bs) →
-    (r : code.Answer) → r ≡ answer_of a → (former out : List ℕ) → out ≡ memory a former → Delivers (report_length r) out P
+    (r : Result ℕ Refusal) → r ≡ answer_of a → (former out : List ℕ) → out ≡ memory a former → Delivers (report_length r) out P
 unfolding answer_of memory report_length
 delivers P (reported bs) h r e former out m n t =
     let l : length bs ≡ n = cc in

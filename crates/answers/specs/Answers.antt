@@ -1,14 +1,10 @@
 -- The answer of a public function, what the lent memory then holds, and the same in the code's type.
 -- (document 01, Refusal table; demands 1 and 2)
-use Rattle.std.specs.Prelude.{◌≤◌, ◌++◌, ◌≡◌}
+use Rattle.std.specs.Prelude.{◌≤◌, ◌++◌, ◌≡◌, Err, Ok, Result, ⊤}
 use Rattle.refusals.specs.Library.{ℕ, ltb, length, take, drop, cond, List, Option, some, none}
 use Rattle.file_format.specs.Terms.{Refusal, ReportMemory}
-use Rattle.refusals.specs.declared.Acceptance.{Acceptance}
-use Rattle.refusals.specs.declared.Acceptance.TheVariants as verdicts
 use Rattle.file_format.specs.Routine.{Routine, Reading, routine}
 use Rattle.file_format.specs.Routine as readings
-use Rattle.answers.specs.declared.Answer.TheVariants.{Reported, Refused}
-use Rattle.answers.specs.declared.Answer as code
 
 -- a report's bytes, or a refusal
 pub data Answer : Type 0 where
@@ -29,9 +25,9 @@ of_reading f (readings.unread r) = refused r
 of_reading f (routine x) = f x
 
 -- of the verdict of a check: what is made, or its refusal
-unfoldable pub of_acceptance : List ℕ → Acceptance → Answer
-of_acceptance made verdicts.Accepted = reported made
-of_acceptance made (verdicts.Refused r) = refused r
+unfoldable pub of_acceptance : List ℕ → Result ⊤ Refusal → Answer
+of_acceptance made (Ok tt) = reported made
+of_acceptance made (Err r) = refused r
 
 -- demand 1: lent report memory holds, after an accepted call, exactly the report and then its former bytes; after a refusal it is as before.
 unfoldable pub memory : Answer → List ℕ → List ℕ
@@ -39,16 +35,16 @@ memory (reported bs) former = bs ++ drop (length bs) former
 memory (refused r) former = former
 
 -- in the code's type: a report by the number of its bytes
-unfoldable pub answer_of : Answer → code.Answer
-answer_of (reported bs) = Reported (length bs)
-answer_of (refused r) = Refused r
+unfoldable pub answer_of : Answer → Result ℕ Refusal
+answer_of (reported bs) = Ok (length bs)
+answer_of (refused r) = Err r
 
 -- ---- what an answer says of the lent memory
 
 -- the length of the report that is answered, if it is one
-unfoldable pub report_length : code.Answer → Option ℕ
-report_length (Reported n) = some n
-report_length (Refused r) = none
+unfoldable pub report_length : Result ℕ Refusal → Option ℕ
+report_length (Ok n) = some n
+report_length (Err r) = none
 
 -- where a report of n bytes is told, at least n are lent, and P holds of the first n that they hold
 abbrev pub Delivers : Option ℕ → List ℕ → (List ℕ → Type 0) → Type 0

@@ -10,5 +10,3 @@ pub use Rattle.file_format.specs.declared.Section.{Section}
 pub use Rattle.file_format.specs.declared.Section.TheVariants.{Kinds as kinds, Primitives as primitives, Cells as cells, Fields as fields}
 pub use Rattle.file_format.specs.declared.Column.TheVariants.{Extra as extra, Cell as cell}
 pub use Rattle.file_format.specs.declared.Role.TheVariants.{Names as names, Values as values}
-pub use Rattle.file_format.specs.declared.RefusedLine.{RefusedLine}
-pub use Rattle.file_format.specs.declared.RefusedLine.TheVariants.{Nowhere as nowhere, Line as line}

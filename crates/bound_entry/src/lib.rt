@@ -11,13 +11,12 @@ ghost use Rattle.report_theory.specs.Promises.{SafeReport, ExactReport};
 ghost use Rattle.report_theory.specs.Listed.{BoundRefused, Refuses, ListedAlone};
 ghost use Rattle.report_theory.specs.Refined.{MonotoneReport, KnownReport};
 
-use answers::Answer;
 use file_check::Reader;
 use file_reader::Routine;
-use refusals::Acceptance;
+use refusals::Refusal;
 
 // The answer of the bound to a routine.
-fn bound_routine(routine: Routine, out: &mut [u8]) -> Answer
+fn bound_routine(routine: Routine, out: &mut [u8]) -> Result<usize, Refusal>
     requires limited { Limited routine }
     requires printable { Printable (bound_routine (routine_in routine)) routine.tick (length out.old) }
     ensures value { result ≡ answer_of (bound_routine (routine_in routine)) }
@@ -29,7 +28,7 @@ fn bound_routine(routine: Routine, out: &mut [u8]) -> Answer
 }
 
 // The bound of a routine file: the report in the lent memory, or a refusal.
-pub fn bound(text: &[u8], out: &mut [u8]) -> Answer
+pub fn bound(text: &[u8], out: &mut [u8]) -> Result<usize, Refusal>
     ensures value { result ≡ answer_of (bound_answer text.now (length out.old)) }
     ensures out_after { out.new ≡ memory (bound_answer text.now (length out.old)) out.old }
     ensures safe { Delivers (report_length result) out.new (SafeReport text.now) }
@@ -38,12 +37,7 @@ pub fn bound(text: &[u8], out: &mut [u8]) -> Answer
     ensures known { Delivers (report_length result) out.new (KnownReport text.now) }
     ensures listed { ListedAlone (Refuses result) (BoundRefused text.now (length out.old)) }
 {
-    let verdict = file_entry::check(Reader::Bound, 128, out.len(), text);
-    match verdict {
-        Acceptance::Accepted => {
-            let routine = file_reader::routine_of(text);
-            bound_routine(routine, out)
-        }
-        Acceptance::Refused(refusal) => Answer::Refused(refusal),
-    }
+    file_entry::check(Reader::Bound, 128, out.len(), text)?;
+    let routine = file_reader::routine_of(text);
+    bound_routine(routine, out)
 }

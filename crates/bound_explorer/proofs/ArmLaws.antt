@@ -1,5 +1,6 @@
 -- The arms of a turn: the next turn of each arm that goes on, and the promise kept by each that returns. What each arm leads to is in
 -- `MadeLaws`. Assumes nothing.
+use Rattle.std.specs.Prelude.{Err, Ok, Result, ⊤}
 use mathlib.Core.Path.{◌≡◌, refl, sym, subst, ◌∙◌, ap}
 use mathlib.Core.Bool.{Bool, true, false}
 use mathlib.Core.List.{List}
@@ -11,8 +12,6 @@ use lib.ListN.{length, get_or, set, length-set}
 use borrow.Author.Tests.{ltb-true, ltb-false}
 use Rattle.refusals.specs.declared.Refusal.{Refusal}
 use Rattle.refusals.specs.declared.Refusal.TheVariants as refusals
-use Rattle.refusals.specs.declared.Acceptance.{Acceptance}
-use Rattle.refusals.specs.declared.Acceptance.TheVariants.{Accepted, Refused}
 use Rattle.cells.specs.Try.{Try, stuck, done, ◌>>=◌}
 use Rattle.cells.specs.declared.Cell.{Cell}
 use Rattle.instructions.specs.HeldColumns.{operation_of}
@@ -243,7 +242,7 @@ module _ {ps : List ℕ} {o budget : ℕ} {fs₀ : List Cell} {s₀ : State} whe
       unfolding whole reblock refused_as
       over-out z q k =
           let no = ways.over z in
-          let verdict : f.verdict ≡ Refused (refusals.Openings r.at) = ap (λ (y : Found). y.verdict) no in
+          let verdict : f.verdict ≡ Err (refusals.Openings r.at) = ap (λ (y : Found). y.verdict) no in
           let none : f.used ≡ 0 = ap (λ (y : Found). y.used) no in
           let count : budget - left + 1 + f.used ≡ budget - left + 1 = omega arith in
           let is : q ≡ refused_as (refusals.Openings s.at) (budget - left + 1) =
@@ -259,35 +258,35 @@ module _ {ps : List ℕ} {o budget : ℕ} {fs₀ : List Cell} {s₀ : State} whe
         ef : Explores (program_of ps) (sizes_of ps) fs u (o - 1) (left - 1) f
         ef = ways.first z
 
-        first_out : (y : Refusal) → f.verdict ≡ Refused y → (q : Found) → q ≡ refused_as y (budget - left + 1 + f.used) → Kept ps o budget fs₀ s₀ q
+        first_out : (y : Refusal) → f.verdict ≡ Err y → (q : Found) → q ≡ refused_as y (budget - left + 1 + f.used) → Kept ps o budget fs₀ s₀ q
         first_out y refuses q k =
             shown ps o budget fs₀ s₀ q _ k
             (loop.first-fails (act ps o budget fs₀ s₀) o budget (whole (sizes_of ps) fs₀ s₀) (whole (sizes_of ps) fs s) left t a.turn.inv a.some _ _ _ _ opened (o - 1) lower f ef.shows ef.counts y refuses)
             (refused-bounded o budget (budget - left + 1 + f.used) _ q k (omega (arith, a.turn.inv.within, a.some, ways.first_bounded.used)))
 
-        module _ (Done-first : f.verdict ≡ Accepted) where
+        module _ (Done-first : f.verdict ≡ Ok tt) where
           eg : Explores (program_of ps) (sizes_of ps) fs v (o - 1) (left - 1 - f.used) g
           eg = ways.second z Done-first
 
-          second-out : (y : Refusal) → g.verdict ≡ Refused y → (q : Found) → q ≡ refused_as y (budget - left + 1 + f.used + g.used) → Kept ps o budget fs₀ s₀ q
+          second-out : (y : Refusal) → g.verdict ≡ Err y → (q : Found) → q ≡ refused_as y (budget - left + 1 + f.used + g.used) → Kept ps o budget fs₀ s₀ q
           second-out y refuses q k =
               shown ps o budget fs₀ s₀ q _ k
               (loop.second-fails (act ps o budget fs₀ s₀) o budget (whole (sizes_of ps) fs₀ s₀) (whole (sizes_of ps) fs s) left t a.turn.inv a.some _ _ _ _ opened (o - 1) lower f ef.shows ef.counts Done-first g eg.shows eg.counts y refuses)
               (refused-bounded o budget (budget - left + 1 + f.used + g.used) _ q k (omega (arith, a.turn.inv.within, a.some, ways.first_bounded.used, ways.second_bounded.used)))
 
-          joined-out : g.verdict ≡ Accepted → (q : Found) → q ≡ joined_of t' (budget - left + 1) f l.extra g → Kept ps o budget fs₀ s₀ q
+          joined-out : g.verdict ≡ Ok tt → (q : Found) → q ≡ joined_of t' (budget - left + 1) f l.extra g → Kept ps o budget fs₀ s₀ q
           joined-out done-second q k =
               shown ps o budget fs₀ s₀ q (joined_of (more_of t (line_of l).price (height (whole (sizes_of ps) fs s))) (budget - left + 1) f l.extra g) (k ∙ ap (λ y. joined_of y (budget - left + 1) f l.extra g) more-is)
               (loop.both-done (act ps o budget fs₀ s₀) o budget (whole (sizes_of ps) fs₀ s₀) (whole (sizes_of ps) fs s) left t a.turn.inv a.some _ _ _ _ opened (o - 1) lower f ef.shows ef.counts Done-first g eg.shows eg.counts l.extra refl done-second)
               (joined-bounded o budget (budget - left + 1) (left - 1) t' l.extra f g q k z (omega (arith, a.turn.inv.within, a.some)) jumped-costs costs.1 ways.first_bounded ways.second_bounded)
 
-          second_way : (y : Acceptance) → g.verdict ≡ y → (q : Found) → q ≡ both_of t' (budget - left + 1) f l.extra g → Kept ps o budget fs₀ s₀ q
-          second_way Accepted e q k = joined-out e q (k ∙ both-accepted t' (budget - left + 1) f l.extra g Done-first e)
-          second_way (Refused y) e q k = second-out y e q (k ∙ second-refused t' (budget - left + 1) f l.extra g Done-first y e)
+          second_way : (y : Result ⊤ Refusal) → g.verdict ≡ y → (q : Found) → q ≡ both_of t' (budget - left + 1) f l.extra g → Kept ps o budget fs₀ s₀ q
+          second_way (Ok tt) e q k = joined-out e q (k ∙ both-accepted t' (budget - left + 1) f l.extra g Done-first e)
+          second_way (Err y) e q k = second-out y e q (k ∙ second-refused t' (budget - left + 1) f l.extra g Done-first y e)
 
-        first_way : (y : Acceptance) → f.verdict ≡ y → (q : Found) → q ≡ both_of t' (budget - left + 1) f l.extra g → Kept ps o budget fs₀ s₀ q
-        first_way Accepted e q k = second_way e g.verdict refl q k
-        first_way (Refused y) e q k = first_out y e q (k ∙ first-refused t' (budget - left + 1) f l.extra g y e)
+        first_way : (y : Result ⊤ Refusal) → f.verdict ≡ y → (q : Found) → q ≡ both_of t' (budget - left + 1) f l.extra g → Kept ps o budget fs₀ s₀ q
+        first_way (Ok tt) e q k = second_way e g.verdict refl q k
+        first_way (Err y) e q k = first_out y e q (k ∙ first-refused t' (budget - left + 1) f l.extra g y e)
 
       pub both_out : (q : Found) → q ≡ both_of t' (budget - (left - 1)) f l.extra g → Kept ps o budget fs₀ s₀ q
       both_out q k = go (ltb 0 o) refl

@@ -1,5 +1,6 @@
 -- The explorer's loop, apart from its code: what holds at each turn, and what each way out of a turn shows. Over any action on states.
 -- Assumes nothing.
+use Rattle.std.specs.Prelude.{Err, Ok}
 use mathlib.Core.Path.{◌≡◌, refl, sym, subst, ◌∙◌, ap}
 use mathlib.Core.Bool.{Bool, true, false, cond}
 use mathlib.Core.List.{List}
@@ -14,7 +15,6 @@ use Rattle.bound_theory.specs.Tree.{Decision, worse, Report, accepted, refused, 
 use Rattle.bound_theory.specs.Tree as bounds
 use Rattle.bound_theory.proofs.ExploreLaws.{before, join, joined, both_ways, explore-spent, explore-stuck, explore-stops, explore-goes, explore-over, explore-opens}
 use Rattle.refusals.specs.declared.Refusal.TheVariants.{Stuck, Openings, Spent}
-use Rattle.refusals.specs.declared.Acceptance.TheVariants.{Accepted, Refused}
 use Rattle.bound_figures.specs.declared.Found.{Found}
 use Rattle.bound_figures.specs.declared.Tally.{Tally}
 use Rattle.bound_figures.specs.HeldFigures.{encode, accepted_as, Shows, zero_tally, more_of, jumped_of, decided_of, joined_of, finished_of, refused_as}
@@ -44,7 +44,7 @@ shift-accepted : (t : Tally) (n : ℕ) (q : Report) (v : bounds.Verdict) → v �
 unfolding shift
 shift-accepted t n q v e r f = subst (Shows r) (sym e) f
 
-shift-refused : (t : Tally) (n : ℕ) (x : Refusal) (v : bounds.Verdict) → v ≡ shift t n (refused x) → (r : Found) → r.verdict ≡ Refused x → Shows r v
+shift-refused : (t : Tally) (n : ℕ) (x : Refusal) (v : bounds.Verdict) → v ≡ shift t n (refused x) → (r : Found) → r.verdict ≡ Err x → Shows r v
 unfolding shift
 shift-refused t n x v e r f = subst (Shows r) (sym e) f
 
@@ -98,14 +98,14 @@ jumped-more t p x h = let e : t.cycles + p.cycles + x ≡ t.cycles + (p.cycles +
 
 -- an answer that is accepted shows a report, and one that is not a refusal
 
-pub accepted-shows : (f : Found) (v : bounds.Verdict) → Shows f v → f.verdict ≡ Accepted → (q : Report) × (v ≡ accepted q) × (f ≡ accepted_as q)
+pub accepted-shows : (f : Found) (v : bounds.Verdict) → Shows f v → f.verdict ≡ Ok tt → (q : Report) × (v ≡ accepted q) × (f ≡ accepted_as q)
 accepted-shows f (accepted q) h e = (q, refl, h)
-accepted-shows f (refused x) h e = let g : Accepted ≡ Refused x = sym e ∙ h in let z : ◌≡◌ {A = ℕ} 0 1 = cc in absurd (omega arith)
+accepted-shows f (refused x) h e = let g : Ok tt ≡ Err x = sym e ∙ h in let z : ◌≡◌ {A = ℕ} 0 1 = cc in absurd (omega arith)
 
-refused-shows : (f : Found) (v : bounds.Verdict) (x : Refusal) → Shows f v → f.verdict ≡ Refused x → v ≡ refused x
+refused-shows : (f : Found) (v : bounds.Verdict) (x : Refusal) → Shows f v → f.verdict ≡ Err x → v ≡ refused x
 unfolding accepted_as
-refused-shows f (accepted q) x h e = let g : Accepted ≡ Refused x = sym (ap (λ r. r.verdict) h) ∙ e in let z : ◌≡◌ {A = ℕ} 0 1 = cc in absurd (omega arith)
-refused-shows f (refused y) x h e = let g : Refused y ≡ Refused x = sym h ∙ e in cc
+refused-shows f (accepted q) x h e = let g : Ok tt ≡ Err x = sym (ap (λ r. r.verdict) h) ∙ e in let z : ◌≡◌ {A = ℕ} 0 1 = cc in absurd (omega arith)
+refused-shows f (refused y) x h e = let g : Err y ≡ Err x = sym h ∙ e in cc
 
 module _ (act : State → Try Next) (o budget : ℕ) (start : State) where
   -- the tally, and then what is left, come to what the whole comes to
@@ -181,7 +181,7 @@ module _ (act : State → Try Next) (o budget : ℕ) (start : State) where
         opened : explore act o (suc (left - 1)) s ≡ both_ways s p (explore act o' (left - 1) u) q (λ k. explore act o' (left - 1 - k) v)
         opened = ap (λ k. explore act k (suc (left - 1)) s) lower ∙ explore-opens act (left - 1) o' s u v p q e
 
-        pub first-fails : (x : Refusal) → f.verdict ≡ Refused x → Shown (refused_as x (budget - left + 1 + f.used))
+        pub first-fails : (x : Refusal) → f.verdict ≡ Err x → Shown (refused_as x (budget - left + 1 + f.used))
         unfolding refused_as both_ways
         first-fails x refuses =
             let g = refused-shows f (explore act o' (left - 1) u) x shows refuses in
@@ -191,7 +191,7 @@ module _ (act : State → Try Next) (o budget : ℕ) (start : State) where
             }
 
         -- the way taken, explored with what the first left of the budget
-        module _ (Done-first : f.verdict ≡ Accepted) (g : Found) (shows' : Shows g (explore act o' (left - 1 - f.used) v)) (counts' : g.used ≡ used act o' (left - 1 - f.used) v) where
+        module _ (Done-first : f.verdict ≡ Ok tt) (g : Found) (shows' : Shows g (explore act o' (left - 1 - f.used) v)) (counts' : g.used ≡ used act o' (left - 1 - f.used) v) where
           first : (r : Report) × (explore act o' (left - 1) u ≡ accepted r) × (f ≡ accepted_as r)
           first = accepted-shows f (explore act o' (left - 1) u) shows Done-first
 
@@ -210,7 +210,7 @@ module _ (act : State → Try Next) (o budget : ℕ) (start : State) where
               used-from (ap (λ k. used act k (suc (left - 1)) s) lower ∙ used-both act (left - 1) o' s u v p q first.0 e first.1
               ∙ ap (λ k. suc (k + used act o' (left - 1 - k) v)) same-used ∙ ap (λ k. suc (f.used + k)) (sym counts'))
 
-          pub second-fails : (x : Refusal) → g.verdict ≡ Refused x → Shown (refused_as x (budget - left + 1 + f.used + g.used))
+          pub second-fails : (x : Refusal) → g.verdict ≡ Err x → Shown (refused_as x (budget - left + 1 + f.used + g.used))
           unfolding refused_as join
           second-fails x refuses =
               let w = refused-shows g (explore act o' (left - 1 - f.used) v) x shows' refuses in
@@ -219,7 +219,7 @@ module _ (act : State → Try Next) (o budget : ℕ) (start : State) where
                 counts = omega (arith, used-second);
               }
 
-          pub both-done : (x : ℕ) → with_extra x p ≡ q → g.verdict ≡ Accepted → Shown (joined_of (more_of t p (height s)) (budget - left + 1) f x g)
+          pub both-done : (x : ℕ) → with_extra x p ≡ q → g.verdict ≡ Ok tt → Shown (joined_of (more_of t p (height s)) (budget - left + 1) f x g)
           unfolding join
           both-done x same done-second =
               let (r', w, d) = accepted-shows g (explore act o' (left - 1 - f.used) v) shows' done-second in

@@ -1,5 +1,6 @@
 -- What the explorer gives back: each way out of a turn meets the contract, and its numbers stay within what the code's numbers hold.
 -- Assumes nothing.
+use Rattle.std.specs.Prelude.{Err, Ok}
 use mathlib.Core.Path.{◌≡◌, refl, sym, subst, ◌∙◌, ap}
 use mathlib.Core.Bool.{Bool, true, false, cond}
 use mathlib.Core.List.{List, [], ◌∷◌}
@@ -10,7 +11,6 @@ use native.Mathlib.Omega.{arith}
 use lib.Dec.{leb}
 use lib.Pow.{pow_mono, pow-lt}
 use Rattle.refusals.specs.declared.Refusal.{Refusal}
-use Rattle.refusals.specs.declared.Acceptance.TheVariants.{Accepted, Refused}
 use Rattle.cells.specs.declared.Cell.{Cell}
 use Rattle.cells.specs.Cells.{unknown}
 use Rattle.machine.specs.Machine.{Code, step, reblock}
@@ -93,7 +93,7 @@ accepted-verdict : (v : bounds.Verdict) (r : Found) (q : Report) → Shows r v �
 unfolding accepted_as
 accepted-verdict (accepted p) r q h e = ap accepted (same-report p q (sym h ∙ e))
 accepted-verdict (refused x) r q h e =
-    let f : Accepted ≡ Refused x = sym (ap (λ r. r.verdict) e) ∙ h in
+    let f : Ok tt ≡ Err x = sym (ap (λ r. r.verdict) e) ∙ h in
     let z : ◌≡◌ {A = ℕ} 0 1 = cc in
     absurd (omega arith)
 

@@ -1,8 +1,7 @@
 -- What the two ways of an unknown branch come to.
-use Rattle.std.specs.Prelude.{◌+◌, ◌-◌, ◌<◌, ◌≡◌}
+use Rattle.std.specs.Prelude.{◌+◌, ◌-◌, ◌<◌, ◌≡◌, Ok}
 use Rattle.refusals.specs.Library.{ℕ, List}
 use Rattle.bound_theory.specs.Terms.{Openings, Cell, Code}
-use Rattle.refusals.specs.declared.Acceptance.TheVariants.{Accepted}
 use Rattle.machine.specs.Machine.{index}
 use Rattle.machine_state.specs.declared.State.{State}
 use Rattle.machine_state.specs.declared.code.Line.{Line}
@@ -19,6 +18,6 @@ placed a s = record { at = a; accu = s.accu; free = s.free; stack = s.stack }
 pub record WaysExplored (c : Code) (ns : List ℕ) (l : Line) (fs : List Cell) (s : State) (openings left : ℕ) (r : Ways) : Type 0 where
   pub over : openings ≡ 0 → r.untaken ≡ refused_as (Openings s.at) 0
   pub first : 0 < openings → Explores c ns fs (placed (s.at + 1) s) (openings - 1) left r.untaken
-  pub second : 0 < openings → r.untaken.verdict ≡ Accepted → Explores c ns fs (placed (index l.operand) s) (openings - 1) (left - r.untaken.used) r.taken
+  pub second : 0 < openings → r.untaken.verdict ≡ Ok tt → Explores c ns fs (placed (index l.operand) s) (openings - 1) (left - r.untaken.used) r.taken
   pub first_bounded : Bounded (openings - 1) left r.untaken
   pub second_bounded : Bounded (openings - 1) (left - r.untaken.used) r.taken

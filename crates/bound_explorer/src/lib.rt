@@ -12,11 +12,11 @@ ghost use Rattle.bound_explorer.specs.HeldWays.{WaysExplored};
 
 use bound_figures::{Found, both};
 use bound_turns::Turn;
-use cells::{Cell, Operand};
+use cells::Cell;
 use machine_state::State;
-use machine_state::code::{Fetched, Line};
+use machine_state::code::Line;
 use machine_state::registers::Registers;
-use refusals::{Acceptance, Refusal};
+use refusals::Refusal;
 
 // What the two ways of a branch come to.
 #[derive(Clone, Copy)]
@@ -57,7 +57,7 @@ fn branch(
     let mut state = State::of(registers, stack).advance();
     let untaken = explore(code, state, blocks, openings - 1, left);
     let verdict = untaken.verdict;
-    if let Acceptance::Refused(refusal) = verdict {
+    if let Err(refusal) = verdict {
         let taken = bound_figures::refused(refusal, 0);
         return Ways {
             untaken: untaken,
@@ -91,8 +91,9 @@ fn walk(
     ensures bounded { Bounded openings budget result }
 {
     let mut tally = bound_figures::nothing(budget);
+    // A while: the steps left are a field of the tally, which each step lowers as it adds its price; a for would count them a second time.
     while 0 < tally.left {
-        let Fetched::Is(line) = bound_turns::reachable(code, registers) else {
+        let Some(line) = bound_turns::reachable(code, registers) else {
             return stuck(registers, budget - tally.left + 1);
         };
         tally = bound_figures::more(tally, line.cycles, line.words, 64 - registers.free);
@@ -113,8 +114,8 @@ fn walk(
                 registers = registers.store().advance();
             }
             Turn::Combines => match bound_turns::combined(line.code, registers.accu, stack[top]) {
-                Operand::Is(c) => registers = registers.pop(1).load(c).advance(),
-                Operand::Stuck => return stuck(registers, budget - tally.left),
+                Some(c) => registers = registers.pop(1).load(c).advance(),
+                None => return stuck(registers, budget - tally.left),
             },
             Turn::Gets(field) => registers = registers.load(blocks[field]).advance(),
             Turn::Sets(field) => {

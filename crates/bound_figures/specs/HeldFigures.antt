@@ -1,9 +1,7 @@
 -- What the explorer's answer stands for: the verdict of the bound, and how many steps were walked.
-use Rattle.std.specs.Prelude.{◌+◌, ◌-◌, ◌*◌, ◌≤◌, ◌∷◌, ◌≡◌}
+use Rattle.std.specs.Prelude.{◌+◌, ◌-◌, ◌*◌, ◌≤◌, ◌∷◌, ◌≡◌, Err, Ok, Result, ⊤}
 use Rattle.refusals.specs.Library.{ℕ, zero, suc, max, leb, cond, List, []}
 use Rattle.bound_theory.specs.Terms.{Refusal, Decision, N, T, Report, Verdict, accepted, refused, Price}
-use Rattle.refusals.specs.declared.Acceptance.TheVariants.{Accepted, Refused}
-use Rattle.refusals.specs.declared.Acceptance as code
 use Rattle.bound_theory.specs.Tree.{Step, made, not_made}
 use Rattle.bound_figures.specs.declared.Found.{Found}
 use Rattle.bound_figures.specs.declared.Tally.{Tally}
@@ -16,12 +14,12 @@ encode (T ∷ ds) = 2 * encode ds + 1
 
 -- an accepted answer with the figures of a report
 unfoldable pub accepted_as : Report → Found
-accepted_as q = record { verdict = Accepted; used = q.steps; cycles = q.cycles; words = q.words; depth = q.depth; path = encode q.path }
+accepted_as q = record { verdict = Ok tt; used = q.steps; cycles = q.cycles; words = q.words; depth = q.depth; path = encode q.path }
 
 -- the answer r shows the verdict v
 abbrev pub Shows : Found → Verdict → Type 0
 Shows r (accepted q) = r ≡ accepted_as q
-Shows r (refused x) = r.verdict ≡ Refused x
+Shows r (refused x) = r.verdict ≡ Err x
 
 -- the steps walked under a budget: all of them, or those up to and with the first that is not made
 unfoldable pub walked : ℕ → List Step → ℕ
@@ -51,7 +49,7 @@ decided_of k l p q = cond (leb k l) (2 * q + 1) (2 * p)
 -- n steps of a tally, and then the two ways of a branch, with the extra x on the taken one
 unfoldable pub joined_of : Tally → ℕ → Found → ℕ → Found → Found
 joined_of t n f x g = record {
-  verdict = Accepted;
+  verdict = Ok tt;
   used = n + f.used + g.used;
   cycles = t.cycles + max f.cycles (x + g.cycles);
   words = t.words + max f.words g.words;
@@ -61,20 +59,20 @@ joined_of t n f x g = record {
 
 -- n steps of a tally, the last of them STOP
 unfoldable pub finished_of : Tally → ℕ → Found
-finished_of t n = record { verdict = Accepted; used = n; cycles = t.cycles; words = t.words; depth = t.depth; path = 1 }
+finished_of t n = record { verdict = Ok tt; used = n; cycles = t.cycles; words = t.words; depth = t.depth; path = 1 }
 
 -- n steps walked, and a refusal
 unfoldable pub refused_as : Refusal → ℕ → Found
-refused_as x n = record { verdict = Refused x; used = n; cycles = 0; words = 0; depth = 0; path = 1 }
+refused_as x n = record { verdict = Err x; used = n; cycles = 0; words = 0; depth = 0; path = 1 }
 
 -- n steps of a tally, and then the two ways of a branch: the first refusal of the two, with the steps up to it, or both joined
-unfoldable pub second_of : Tally → ℕ → Found → ℕ → Found → code.Acceptance → Found
-second_of t n f x g Accepted = joined_of t n f x g
-second_of t n f x g (Refused y) = refused_as y (n + f.used + g.used)
+unfoldable pub second_of : Tally → ℕ → Found → ℕ → Found → Result ⊤ Refusal → Found
+second_of t n f x g (Ok tt) = joined_of t n f x g
+second_of t n f x g (Err y) = refused_as y (n + f.used + g.used)
 
-unfoldable pub first_found_of : Tally → ℕ → Found → ℕ → Found → code.Acceptance → Found
-first_found_of t n f x g Accepted = second_of t n f x g g.verdict
-first_found_of t n f x g (Refused y) = refused_as y (n + f.used)
+unfoldable pub first_found_of : Tally → ℕ → Found → ℕ → Found → Result ⊤ Refusal → Found
+first_found_of t n f x g (Ok tt) = second_of t n f x g g.verdict
+first_found_of t n f x g (Err y) = refused_as y (n + f.used)
 
 unfoldable pub both_of : Tally → ℕ → Found → ℕ → Found → Found
 both_of t n f x g = first_found_of t n f x g f.verdict

@@ -4,13 +4,13 @@
 ghost use Rattle.std.specs.Prelude.{◌≡◌, ◌<◌, ◌≤◌, max};
 ghost use Rattle.bound_figures.specs.HeldFigures.{zero_tally, price, more_of, jumped_of, decided_of, joined_of, both_of, finished_of, refused_as, Summable};
 
-use refusals::{Acceptance, Refusal};
+use refusals::Refusal;
 
 // What exploring comes to: the verdict, the steps walked, and where it is accepted the figures of the report.
 // `path` has a bit for each decision, the first one lowest, 1 for taken, with a 1 above the last.
 #[derive(Clone, Copy)]
 pub struct Found {
-    pub verdict: Acceptance,
+    pub verdict: Result<(), Refusal>,
     pub used: usize,
     pub cycles: u64,
     pub words: u64,
@@ -39,13 +39,6 @@ pub fn nothing(budget: usize) -> Tally
     }
 }
 
-// The larger of two numbers.
-pub fn larger(a: u64, b: u64) -> u64
-    ensures { result ≡ max a b }
-{
-    if a < b { b } else { a }
-}
-
 // The path of the way that costs more, with the decision that leads to it.
 fn decided(k: u64, l: u64, p: u64, q: u64) -> u64
     requires { (p ≤ 4294967296) × (q ≤ 4294967296) }
@@ -61,7 +54,7 @@ pub fn more(t: Tally, cycles: u32, words: u32, h: usize) -> Tally
 {
     let c = t.cycles + (cycles as u64);
     let w = t.words + (words as u64);
-    let depth = larger(t.depth, h as u64);
+    let depth = t.depth.max(h as u64);
     Tally {
         left: t.left - 1,
         cycles: c,
@@ -89,7 +82,7 @@ pub fn finished(t: Tally, n: usize) -> Found
     ensures { result ≡ finished_of t n }
 {
     Found {
-        verdict: Acceptance::Accepted,
+        verdict: Ok(()),
         used: n,
         cycles: t.cycles,
         words: t.words,
@@ -103,7 +96,7 @@ pub fn refused(x: Refusal, walked: usize) -> Found
     ensures { result ≡ refused_as x walked }
 {
     Found {
-        verdict: Acceptance::Refused(x),
+        verdict: Err(x),
         used: walked,
         cycles: 0,
         words: 0,
@@ -118,12 +111,12 @@ pub fn joined(t: Tally, n: usize, f: Found, extra: u32, g: Found) -> Found
     ensures { result ≡ joined_of t n f extra g }
 {
     let taken = (extra as u64) + g.cycles;
-    let cycles = t.cycles + larger(f.cycles, taken);
-    let words = t.words + larger(f.words, g.words);
-    let depth = larger(t.depth, larger(f.depth, g.depth));
+    let cycles = t.cycles + f.cycles.max(taken);
+    let words = t.words + f.words.max(g.words);
+    let depth = t.depth.max(f.depth.max(g.depth));
     let path = decided(f.cycles, taken, f.path, g.path);
     Found {
-        verdict: Acceptance::Accepted,
+        verdict: Ok(()),
         used: n + f.used + g.used,
         cycles: cycles,
         words: words,
@@ -138,11 +131,11 @@ pub fn both(t: Tally, n: usize, f: Found, extra: u32, g: Found) -> Found
     ensures { result ≡ both_of t n f extra g }
 {
     let first = f.verdict;
-    if let Acceptance::Refused(refusal) = first {
+    if let Err(refusal) = first {
         return refused(refusal, n + f.used);
     }
     let second = g.verdict;
-    if let Acceptance::Refused(refusal) = second {
+    if let Err(refusal) = second {
         return refused(refusal, n + f.used + g.used);
     }
     joined(t, n, f, extra, g)

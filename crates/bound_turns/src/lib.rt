@@ -3,19 +3,16 @@
 
 ghost use Rattle.std.specs.Prelude.{◌≡◌, cond, ◌<◌, ◌≤◌, pos};
 ghost use Rattle.cells.specs.Cells.{condition};
-ghost use Rattle.cells.specs.HeldAnswers.{of_operand};
 ghost use Rattle.instructions.specs.HeldColumns.{operation_of};
 ghost use Rattle.machine_outcome.specs.HeldOutcome.{drops, operated};
 ghost use Rattle.machine_state.specs.HeldProgram.{program_of, sizes_of, of_fetched, IsProgram, Known};
-ghost use Rattle.machine_state.specs.HeldState.{of_slot};
 ghost use Rattle.bound_turns.specs.declared.Turn.TheVariants.{Stuck};
 ghost use Rattle.bound_turns.specs.HeldTurn.{reached, reading, storing, dropping, altering, branching, getting, setting, turn};
 
-use cells::{Binary, Cell, Condition, Operand, Tested, Unary};
+use cells::{Binary, Cell, Condition, Unary};
 use instructions::operations;
 use machine_outcome::index_of;
-use machine_state::Slot;
-use machine_state::code::{Fetched, Line};
+use machine_state::code::Line;
 use machine_state::registers::Registers;
 use numbers::Comparison;
 
@@ -44,27 +41,27 @@ pub enum Turn {
 }
 
 // The line at the address of the registers, where the stack has room for its push.
-pub fn reachable(code: &[u32; 5131], registers: Registers) -> Fetched
+pub fn reachable(code: &[u32; 5131], registers: Registers) -> Option<Line>
     requires { IsProgram code.now }
     ensures result_value { of_fetched result ≡ reached (program_of code.now) registers }
     ensures known { Known result }
 {
     let fetched = machine_state::code::fetch(code, registers.at);
-    let Fetched::Is(line) = fetched else {
-        return Fetched::Outside;
+    let Some(line) = fetched else {
+        return None;
     };
     if line.pushes {
         if registers.free == 0 {
-            return Fetched::Outside;
+            return None;
         }
     }
-    Fetched::Is(line)
+    Some(line)
 }
 
 // What an operation on the accumulator and the top entry gives: each operation in an arm of its own, where the compiler makes it apart.
-pub fn combined(code: u8, accu: Cell, entry: Cell) -> Operand
+pub fn combined(code: u8, accu: Cell, entry: Cell) -> Option<Cell>
     requires { (code ≤ 22) × (drops (operation_of code) 0 ≡ 1) }
-    ensures { of_operand result ≡ operated (operation_of code) (pos 0) accu entry }
+    ensures { result ≡ operated (operation_of code) (pos 0) accu entry }
 {
     match code {
         operations::ADD => cells::operate2(Binary::Add, accu, entry),
@@ -112,11 +109,11 @@ fn drop_entries(registers: Registers, n: usize, c: Cell) -> Turn
 }
 
 // The accumulator becomes what an operation on it gave.
-fn alter(registers: Registers, given: Operand) -> Turn
+fn alter(registers: Registers, given: Option<Cell>) -> Turn
     requires { registers.at < 65536 }
-    ensures { result ≡ altering registers (of_operand given) }
+    ensures { result ≡ altering registers given }
 {
-    let Operand::Is(c) = given else {
+    let Some(c) = given else {
         return Turn::Stuck;
     };
     Turn::Goes(registers.load(c).advance())
@@ -128,7 +125,7 @@ fn branch_on(registers: Registers, n: usize, zero: bool) -> Turn
     ensures { result ≡ branching zero n registers (condition registers.accu) }
 {
     let tested = cells::condition_of(registers.accu);
-    let Tested::Is(x) = tested else {
+    let Some(x) = tested else {
         return Turn::Stuck;
     };
     match x {
@@ -151,20 +148,20 @@ fn branch_on(registers: Registers, n: usize, zero: bool) -> Turn
 }
 
 // A field is got, where it is there.
-fn get_field(field: Slot) -> Turn
-    ensures { result ≡ getting (of_slot field) }
+fn get_field(field: Option<usize>) -> Turn
+    ensures { result ≡ getting field }
 {
-    let Slot::At(j) = field else {
+    let Some(j) = field else {
         return Turn::Stuck;
     };
     Turn::Gets(j)
 }
 
 // A field is set, where it is there.
-fn set_field(field: Slot) -> Turn
-    ensures { result ≡ setting (of_slot field) }
+fn set_field(field: Option<usize>) -> Turn
+    ensures { result ≡ setting field }
 {
-    let Slot::At(j) = field else {
+    let Some(j) = field else {
         return Turn::Stuck;
     };
     Turn::Sets(j)

@@ -1,12 +1,11 @@
 -- The number that C gets of a refusal and of a report. Assumes nothing.
+use Rattle.std.specs.Prelude.{Err, Ok, Result}
 use Prim.Native.Nat.{ℕ, ◌+◌, ◌*◌, ◌%◌, ◌≤◌}
 use mathlib.Core.Path.{◌≡◌, refl}
 use native.Mathlib.Omega.{arith}
 use Rattle.refusals.specs.declared.Refusal.{Refusal}
 use Rattle.refusals.specs.declared.Refusal.TheVariants as refusals
 use Rattle.refusals.specs.Refusals.{number, place}
-use Rattle.answers.specs.declared.Answer as code
-use Rattle.answers.specs.declared.Answer.TheVariants.{Reported, Refused}
 use Rattle.c_answers.specs.Told.{word_of}
 
 -- no number of a refusal is above 14
@@ -27,10 +26,10 @@ number_small (refusals.Spent a) = omega arith
 number_small (refusals.BadWord i) = omega arith
 number_small (refusals.NoMeeting a) = omega arith
 
-pub word-refused : (r : Refusal) (n p : ℕ) → n ≡ number r → p ≡ place r → 9223372036854775808 + n * 4294967296 + p % 4294967296 ≡ word_of (Refused r)
+pub word-refused : (r : Refusal) (n p : ℕ) → n ≡ number r → p ≡ place r → 9223372036854775808 + n * 4294967296 + p % 4294967296 ≡ word_of (Err r)
 unfolding word_of
 word-refused r n p e f = rw (e, f) refl
 
-pub word-reported : (a : code.Answer) (n : ℕ) → a ≡ Reported n → n ≡ word_of a
+pub word-reported : (a : Result ℕ Refusal) (n : ℕ) → a ≡ Ok n → n ≡ word_of a
 unfolding word_of
 word-reported a n e = rw e refl

@@ -1,16 +1,14 @@
 -- The number that C gets of an answer of the public functions.
-use Rattle.std.specs.Prelude.{◌+◌, ◌*◌, ◌%◌, ◌≤◌, ◌<◌, ◌≡◌}
+use Rattle.std.specs.Prelude.{◌+◌, ◌*◌, ◌%◌, ◌≤◌, ◌<◌, ◌≡◌, Err, Ok, Result}
 use Rattle.refusals.specs.Library.{ℕ, ltb, cond, List, Option, some, none}
 use Rattle.refusals.specs.declared.Refusal.{Refusal}
 use Rattle.refusals.specs.Refusals.{number, place}
 use Rattle.answers.specs.Answers.{Answer, reported, refused, answer_of}
-use Rattle.answers.specs.declared.Answer.TheVariants.{Reported, Refused}
-use Rattle.answers.specs.declared.Answer as code
 
 -- an answer as one number: a report's length; for a refusal bit 63, its number from bit 32 on, and the lowest 32 bits of its place
-unfoldable pub word_of : code.Answer → ℕ
-word_of (Reported n) = n
-word_of (Refused r) = 9223372036854775808 + number r * 4294967296 + place r % 4294967296
+unfoldable pub word_of : Result ℕ Refusal → ℕ
+word_of (Ok n) = n
+word_of (Err r) = 9223372036854775808 + number r * 4294967296 + place r % 4294967296
 
 -- the length of the report that a number tells: a number below 2 ^ 63 tells one
 unfoldable pub told_length : ℕ → Option ℕ

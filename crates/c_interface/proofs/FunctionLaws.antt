@@ -1,4 +1,5 @@
 -- What C is told of each answer: the number, the length, the refusals. Assumes nothing.
+use Rattle.std.specs.Prelude.{Err, Ok, Result}
 use Prim.Native.Nat.{ℕ, ◌+◌, ◌*◌, ◌%◌, ◌≤◌, ◌<◌}
 use mathlib.Core.Path.{◌≡◌, refl, sym, ap, ap₂, ◌∙◌}
 use mathlib.Core.List.{List, [], ◌∷◌}
@@ -13,8 +14,6 @@ use Rattle.refusals.specs.declared.Refusal.TheVariants as refusals
 use Rattle.refusals.specs.Refusals.{number, place}
 use Rattle.answers.specs.Answers.{Answer, reported, memory_limit, answer_of, report_length}
 use Rattle.answers.specs.Answers as answers
-use Rattle.answers.specs.declared.Answer as code
-use Rattle.answers.specs.declared.Answer.TheVariants.{Reported, Refused}
 use Rattle.report_theory.specs.Answers.{bound_answer, merge_answer, run_answer}
 use Rattle.report_theory.specs.Listed.{BoundRefused, MergeRefused, RunRefused, Numbered, ListedAlone}
 use Rattle.report_theory.proofs.AnswerLaws.{bound-reported, merge-reported, run-reported, bound-refusal-place, merge-refusal-place, run-refusal-place}
@@ -206,7 +205,7 @@ told-length most (answers.refused r) h = rw (le-ltb (9223372036854775808 + numbe
 -- two answers with one number
 pub told : (most : ℕ) (a b : Answer) → WithinLimits most a → WithinLimits most b → AnswerTold a b
 unfolding word_of answer_of
-told most (reported bs) (reported cs) h k e = ap Reported e
+told most (reported bs) (reported cs) h k e = ap Ok e
 told most (reported bs) (answers.refused r) h k e = let l = h.report bs refl in let m = h.small in absurd (omega arith)
 told most (answers.refused r) (reported bs) h k e = let l = k.report bs refl in let m = k.small in absurd (omega arith)
 told most (answers.refused r) (answers.refused s) h k e =
@@ -214,7 +213,7 @@ told most (answers.refused r) (answers.refused s) h k e =
     let m = k.refusal s refl in
     let f : number r ≡ number s = omega arith in
     let g : place r ≡ place s = omega arith in
-    ap Refused (refusal-told r ∙ ap₂ refusal_at f g ∙ sym (refusal-told s))
+    ap Err (refusal-told r ∙ ap₂ refusal_at f g ∙ sym (refusal-told s))
 
 -- the refusals that a number tells, where those of the answer are settled
 module _ (P : Refusal → Type 0) (a : Answer) (h : (r : Refusal) → (a ≡ answers.refused r) ↔ P r) where
@@ -250,31 +249,31 @@ module _ (text : List ℕ) (n : ℕ) where
   pub bound-tells : (w : ℕ) → w ≡ word_of (answer_of (bound_answer text n)) → Tells memory_limit (bound_answer text n) w
   bound-tells = tells (bound-limits text n)
 
-  pub bound-length : (r : code.Answer) → r ≡ answer_of (bound_answer text n) → (w : ℕ) → w ≡ word_of r → report_length r ≡ told_length w
+  pub bound-length : (r : Result ℕ Refusal) → r ≡ answer_of (bound_answer text n) → (w : ℕ) → w ≡ word_of r → report_length r ≡ told_length w
   bound-length r e w f = rw (f, e) (sym (told-length memory_limit (bound_answer text n) (bound-limits text n)))
 
   pub merge-tells : (w : ℕ) → w ≡ word_of (answer_of (merge_answer text n)) → Tells memory_limit (merge_answer text n) w
   merge-tells = tells (merge-limits text n)
 
-  pub merge-length : (r : code.Answer) → r ≡ answer_of (merge_answer text n) → (w : ℕ) → w ≡ word_of r → report_length r ≡ told_length w
+  pub merge-length : (r : Result ℕ Refusal) → r ≡ answer_of (merge_answer text n) → (w : ℕ) → w ≡ word_of r → report_length r ≡ told_length w
   merge-length r e w f = rw (f, e) (sym (told-length memory_limit (merge_answer text n) (merge-limits text n)))
 
   pub run-tells : (w : ℕ) → w ≡ word_of (answer_of (run_answer text n)) → Tells memory_limit (run_answer text n) w
   run-tells = tells (run-limits text n)
 
-  pub run_length : (r : code.Answer) → r ≡ answer_of (run_answer text n) → (w : ℕ) → w ≡ word_of r → report_length r ≡ told_length w
+  pub run_length : (r : Result ℕ Refusal) → r ≡ answer_of (run_answer text n) → (w : ℕ) → w ≡ word_of r → report_length r ≡ told_length w
   run_length r e w f = rw (f, e) (sym (told-length memory_limit (run_answer text n) (run-limits text n)))
 
   pub decide-tells : (w : ℕ) → w ≡ word_of (answer_of (decide_answer text n)) → Tells memory_limit (decide_answer text n) w
   decide-tells = tells (decide-limits text n)
 
-  pub decide-length : (r : code.Answer) → r ≡ answer_of (decide_answer text n) → (w : ℕ) → w ≡ word_of r → report_length r ≡ told_length w
+  pub decide-length : (r : Result ℕ Refusal) → r ≡ answer_of (decide_answer text n) → (w : ℕ) → w ≡ word_of r → report_length r ≡ told_length w
   decide-length r e w f = rw (f, e) (sym (told-length memory_limit (decide_answer text n) (decide-limits text n)))
 
   pub trace-tells : (w : ℕ) → w ≡ word_of (answer_of (trace_answer text n)) → Tells trace_memory (trace_answer text n) w
   trace-tells = tells (trace-limits text n)
 
-  pub trace-length : (r : code.Answer) → r ≡ answer_of (trace_answer text n) → (w : ℕ) → w ≡ word_of r → report_length r ≡ told_length w
+  pub trace-length : (r : Result ℕ Refusal) → r ≡ answer_of (trace_answer text n) → (w : ℕ) → w ≡ word_of r → report_length r ≡ told_length w
   trace-length r e w f = rw (f, e) (sym (told-length trace_memory (trace_answer text n) (trace-limits text n)))
 
   pub export-tells : (w : ℕ) → w ≡ word_of (answer_of (export_answer text n)) → Tells conversion_limit (export_answer text n) w
@@ -292,19 +291,19 @@ explain-merge-tells text n = tells (explain-merge-limits text n)
 pub split-tells : (text cuts : List ℕ) (n w : ℕ) → w ≡ word_of (answer_of (split_answer text cuts n)) → Tells memory_limit (split_answer text cuts n) w
 split-tells text cuts n = tells (split-limits text cuts n)
 
-pub split-length : (text cuts : List ℕ) (n : ℕ) (r : code.Answer) → r ≡ answer_of (split_answer text cuts n) → (w : ℕ) → w ≡ word_of r → report_length r ≡ told_length w
+pub split-length : (text cuts : List ℕ) (n : ℕ) (r : Result ℕ Refusal) → r ≡ answer_of (split_answer text cuts n) → (w : ℕ) → w ≡ word_of r → report_length r ≡ told_length w
 split-length text cuts n r e w f = rw (f, e) (sym (told-length memory_limit (split_answer text cuts n) (split-limits text cuts n)))
 
 pub decide-split-tells : (text cuts : List ℕ) (n w : ℕ) → w ≡ word_of (answer_of (decide_split_answer text cuts n)) → Tells memory_limit (decide_split_answer text cuts n) w
 decide-split-tells text cuts n = tells (decide-split-limits text cuts n)
 
-pub decide-split-length : (text cuts : List ℕ) (n : ℕ) (r : code.Answer) → r ≡ answer_of (decide_split_answer text cuts n) → (w : ℕ) → w ≡ word_of r → report_length r ≡ told_length w
+pub decide-split-length : (text cuts : List ℕ) (n : ℕ) (r : Result ℕ Refusal) → r ≡ answer_of (decide_split_answer text cuts n) → (w : ℕ) → w ≡ word_of r → report_length r ≡ told_length w
 decide-split-length text cuts n r e w f = rw (f, e) (sym (told-length memory_limit (decide_split_answer text cuts n) (decide-split-limits text cuts n)))
 
 pub replay-tells : (text trace : List ℕ) (n w : ℕ) → w ≡ word_of (answer_of (replay_answer text trace n)) → Tells memory_limit (replay_answer text trace n) w
 replay-tells text trace n = tells (replay-limits text trace n)
 
-pub replay-length : (text trace : List ℕ) (n : ℕ) (r : code.Answer) → r ≡ answer_of (replay_answer text trace n) → (w : ℕ) → w ≡ word_of r → report_length r ≡ told_length w
+pub replay-length : (text trace : List ℕ) (n : ℕ) (r : Result ℕ Refusal) → r ≡ answer_of (replay_answer text trace n) → (w : ℕ) → w ≡ word_of r → report_length r ≡ told_length w
 replay-length text trace n r e w f = rw (f, e) (sym (told-length memory_limit (replay_answer text trace n) (replay-limits text trace n)))
 
 pub preview-tells : (text instruction : List ℕ) (address n : ℕ) → address < 4294967296 → (w : ℕ) → w ≡ word_of (answer_of (preview_answer text address instruction n)) →

@@ -1,6 +1,5 @@
 pub mod Try
 pub mod Cells
-pub mod HeldAnswers
 pub mod Order
 pub mod Covering
 pub mod HeldConfined

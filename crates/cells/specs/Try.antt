@@ -1,9 +1,7 @@
 -- What an action gives that may be stuck.
 
--- stuck, or done with a result
-pub data Try (A : Type 0) : Type 0 where
-  stuck : Try A
-  done : A → Try A
+-- stuck, or done with a result: the library's option, by these names
+pub use Rattle.std.specs.Prelude.{Option as Try, None as stuck, Some as done}
 
 -- one action after another: stuck where the first is
 infixl 20 ◌>>=◌

@@ -4,7 +4,6 @@
 ghost use Rattle.std.specs.Prelude.{◌≡◌, ◌<◌};
 ghost use Rattle.numbers.specs.Numbers.{wrap, bit, numbers};
 ghost use Rattle.cells.specs.Cells.{high, exactly, unknown, between, handle, calculate₁, calculate₂, results, least₁, always, negated, judged, wider, range₂, compare_handles, combine_handles, operate₁, operate₂, condition, block};
-ghost use Rattle.cells.specs.HeldAnswers.{of_operand, of_tested, of_handled};
 ghost use Rattle.cells.specs.HeldSmall.{Small};
 
 use numbers::Comparison;
@@ -44,27 +43,6 @@ pub enum Condition {
     IsZero,
     IsNonzero,
     IsUnknown,
-}
-
-// What an operation gives.
-#[derive(Clone, Copy)]
-pub enum Operand {
-    Is(Cell),
-    Stuck,
-}
-
-// What a test of a cell gives.
-#[derive(Clone, Copy)]
-pub enum Tested {
-    Is(Condition),
-    Stuck,
-}
-
-// The block that a cell is a handle of.
-#[derive(Clone, Copy)]
-pub enum Handled {
-    Block(u8),
-    Stuck,
 }
 
 // The cell of a number, which wraps.
@@ -178,21 +156,21 @@ fn least1(u: Unary, i: i32, low: i32, more: u32) -> i64
 }
 
 // "Sums, differences and negations of single numbers stay exact and wrap"; with a handle it is stuck.
-pub fn operate1(u: Unary, i: i32, a: Cell) -> Operand
-    ensures { of_operand result ≡ operate₁ u i a }
+pub fn operate1(u: Unary, i: i32, a: Cell) -> Option<Cell>
+    ensures { result ≡ operate₁ u i a }
 {
     let value = a.value;
     match value {
         Value::Range(low, more) => {
             if more == 0 {
-                Operand::Is(Cell {
+                Some(Cell {
                     value: Value::Range(calculate1(u, i, low), 0),
                 })
             } else {
-                Operand::Is(results(least1(u, i, low, more), more as u64))
+                Some(results(least1(u, i, low, more), more as u64))
             }
         }
-        Value::Handle(_) => Operand::Stuck,
+        Value::Handle(_) => None,
     }
 }
 
@@ -275,76 +253,74 @@ fn combine_ranges(b: Binary, low: i32, more: u32, low2: i32, more2: u32) -> Cell
 }
 
 // "EQ and NEQ of two handles now give a known 1 or 0 by block number"; the order of two handles is stuck.
-fn compare_handles(c: Comparison, j: u8, k: u8) -> Operand
-    ensures { of_operand result ≡ compare_handles c j k }
+fn compare_handles(c: Comparison, j: u8, k: u8) -> Option<Cell>
+    ensures { result ≡ compare_handles c j k }
 {
     match c {
-        Comparison::Equal => Operand::Is(truth(j == k)),
-        Comparison::Unequal => Operand::Is(truth(j != k)),
-        Comparison::Less => Operand::Stuck,
-        Comparison::AtMost => Operand::Stuck,
-        Comparison::Greater => Operand::Stuck,
-        Comparison::AtLeast => Operand::Stuck,
+        Comparison::Equal => Some(truth(j == k)),
+        Comparison::Unequal => Some(truth(j != k)),
+        Comparison::Less => None,
+        Comparison::AtMost => None,
+        Comparison::Greater => None,
+        Comparison::AtLeast => None,
     }
 }
 
 // An operation on the handles of blocks j and k.
-fn combine_handles(b: Binary, j: u8, k: u8) -> Operand
-    ensures { of_operand result ≡ combine_handles b j k }
+fn combine_handles(b: Binary, j: u8, k: u8) -> Option<Cell>
+    ensures { result ≡ combine_handles b j k }
 {
     match b {
-        Binary::Add => Operand::Stuck,
-        Binary::Subtract => Operand::Stuck,
+        Binary::Add => None,
+        Binary::Subtract => None,
         Binary::Compare(c) => compare_handles(c, j, k),
     }
 }
 
-pub fn operate2(b: Binary, a: Cell, c: Cell) -> Operand
-    ensures { of_operand result ≡ operate₂ b a c }
+pub fn operate2(b: Binary, a: Cell, c: Cell) -> Option<Cell>
+    ensures { result ≡ operate₂ b a c }
 {
     let left = a.value;
     let right = c.value;
     match left {
         Value::Range(low, more) => match right {
-            Value::Range(low2, more2) => Operand::Is(combine_ranges(b, low, more, low2, more2)),
-            Value::Handle(_) => Operand::Stuck,
+            Value::Range(low2, more2) => Some(combine_ranges(b, low, more, low2, more2)),
+            Value::Handle(_) => None,
         },
         Value::Handle(j) => match right {
-            Value::Range(_, _) => Operand::Stuck,
+            Value::Range(_, _) => None,
             Value::Handle(k) => combine_handles(b, j, k),
         },
     }
 }
 
 // "A condition whose range lacks 0, or is only 0, opens no second way."
-pub fn condition_of(a: Cell) -> Tested
-    ensures { of_tested result ≡ condition a }
+pub fn condition_of(a: Cell) -> Option<Condition>
+    ensures { result ≡ condition a }
 {
-    let value = a.value;
-    match value {
-        Value::Range(low, more) => {
-            if low > 0 {
-                return Tested::Is(Condition::IsNonzero);
-            }
-            if high(low, more) < 0 {
-                return Tested::Is(Condition::IsNonzero);
-            }
-            if more == 0 {
-                Tested::Is(Condition::IsZero)
-            } else {
-                Tested::Is(Condition::IsUnknown)
-            }
-        }
-        Value::Handle(_) => Tested::Stuck,
+    let Value::Range(low, more) = a.value else {
+        return None;
+    };
+    if low > 0 {
+        return Some(Condition::IsNonzero);
+    }
+    if high(low, more) < 0 {
+        return Some(Condition::IsNonzero);
+    }
+    if more == 0 {
+        Some(Condition::IsZero)
+    } else {
+        Some(Condition::IsUnknown)
     }
 }
 
-pub fn block(a: Cell) -> Handled
-    ensures { of_handled result ≡ block a }
+// The block that a cell is a handle of.
+#[tactic(auto, unfolding(crate::specs::Cells::block, crate::specs::Cells::handled))]
+pub fn block(a: Cell) -> Option<u8>
+    ensures { result ≡ block a }
 {
-    let value = a.value;
-    let Value::Handle(k) = value else {
-        return Handled::Stuck;
-    };
-    Handled::Block(k)
+    match a.value {
+        Value::Range(_, _) => None,
+        Value::Handle(k) => Some(k),
+    }
 }

@@ -1,3 +1,5 @@
 pub mod Line
 pub mod HeldGiven
 pub mod Read
+pub mod Asked
+pub mod AskedTwo

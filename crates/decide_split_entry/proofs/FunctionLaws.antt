@@ -1,12 +1,11 @@
 -- What the decision by cases answers to a routine and to two texts, and how large that is. Assumes nothing.
+use Rattle.std.specs.Prelude.{Err, Ok, Result, ⊤}
 use Prim.Native.Nat.{ℕ, ◌≤◌}
 use mathlib.Core.Path.{◌≡◌, refl, sym, ap}
 use mathlib.Core.List.{List}
 use native.Mathlib.Omega.{arith}
 use lib.ListN.{length}
 use Rattle.refusals.specs.declared.Refusal.{Refusal}
-use Rattle.refusals.specs.declared.Acceptance as checks
-use Rattle.refusals.specs.declared.Acceptance.TheVariants.{Accepted, Refused}
 use Rattle.text.specs.Text.{lines}
 use Rattle.bound_theory.specs.Tree.{Report, Verdict}
 use Rattle.bound_theory.specs.Tree as verdicts
@@ -37,22 +36,22 @@ use Rattle.decide_split_entry.specs.Promises.{DecidedByCases}
 -- ---- a routine, by the figures found
 
 module _ (cuts : List ℕ) (x : Routine) (f : Found) (s : Shows f (split x.code (cuts_of cuts) x.start)) where
-  pub cases-decide : f.verdict ≡ Accepted → decide_cases cuts x ≡ reported (decision_text Split x.tick (report_in f))
+  pub cases-decide : f.verdict ≡ Ok tt → decide_cases cuts x ≡ reported (decision_text Split x.tick (report_in f))
   unfolding decide_cases of_verdict
   cases-decide e = ap (of_verdict (decision_text Split x.tick)) (shown-accepted f (split x.code (cuts_of cuts) x.start) s e)
 
-  pub cases-refuse : (r : Refusal) → f.verdict ≡ Refused r → decide_cases cuts x ≡ refused r
+  pub cases-refuse : (r : Refusal) → f.verdict ≡ Err r → decide_cases cuts x ≡ refused r
   unfolding decide_cases of_verdict
   cases-refuse r e = ap (of_verdict (decision_text Split x.tick)) (shown-refused f (split x.code (cuts_of cuts) x.start) s r e)
 
 -- ---- the cuts
 
 module _ (text cuts : List ℕ) (x : Routine) where
-  pub cuts-passed : cuts_checked text cuts ≡ Accepted → decide_split_routine text cuts x ≡ decide_cases cuts x
+  pub cuts-passed : cuts_checked text cuts ≡ Ok tt → decide_split_routine text cuts x ≡ decide_cases cuts x
   unfolding decide_split_routine checked
   cuts-passed e = ap (λ v. checked v (decide_cases cuts x)) e
 
-  pub cuts-refused : (r : Refusal) → cuts_checked text cuts ≡ Refused r → decide_split_routine text cuts x ≡ refused r
+  pub cuts-refused : (r : Refusal) → cuts_checked text cuts ≡ Err r → decide_split_routine text cuts x ≡ refused r
   unfolding decide_split_routine checked
   cuts-refused r e = ap (λ v. checked v (decide_cases cuts x)) e
 
@@ -92,11 +91,11 @@ from-decision text cuts n bs e =
     let a = from-reading (decide_split_routine text cuts) (read_bound text) memory_limit n bs e in
     go a.lent a.routine a.reads (cuts_checked text cuts) refl a.gives
   where
-    go : memory_limit ≤ n → (x : Routine) → read_bound text ≡ readings.routine x → (v : checks.Acceptance) → cuts_checked text cuts ≡ v → checked v (decide_cases cuts x) ≡ reported bs → FromDecision text cuts n bs
-    go l x reads Accepted h e =
+    go : memory_limit ≤ n → (x : Routine) → read_bound text ≡ readings.routine x → (v : Result ⊤ Refusal) → cuts_checked text cuts ≡ v → checked v (decide_cases cuts x) ≡ reported bs → FromDecision text cuts n bs
+    go l x reads (Ok tt) h e =
         let f = from-cases cuts x bs e in
         record { lent = l; routine = x; report = f.report; is = record { reads = reads; passes = h; accepts = f.accepts; prints = f.prints } }
-    go l x reads (Refused r) h e = never r bs e
+    go l x reads (Err r) h e = never r bs e
 
 -- ---- its size
 

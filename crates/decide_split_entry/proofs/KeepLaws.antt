@@ -1,15 +1,16 @@
 -- What the equations of an answer of the decision by cases give besides. Assumes nothing.
+use Rattle.refusals.specs.declared.Refusal.{Refusal}
+use Rattle.std.specs.Prelude.{Result}
 use Prim.Native.Nat.{ℕ}
 use mathlib.Core.Path.{◌≡◌}
 use mathlib.Core.List.{List}
 use Rattle.answers.specs.Answers.{memory, answer_of, report_length, Delivers}
-use Rattle.answers.specs.declared.Answer as code
 use Rattle.answers.proofs.AnswerLaws.{delivers}
 use Rattle.decide_split_entry.specs.Answers.{decide_split_answer}
 use Rattle.decide_split_entry.specs.Promises.{KeepsTickByCases, UndecidedByCases}
 use Rattle.decide_split_entry.proofs.Theorems.{split-decisions-kept}
 
-module _ (text cuts : List ℕ) (n : ℕ) (former out : List ℕ) (r : code.Answer) where
+module _ (text cuts : List ℕ) (n : ℕ) (former out : List ℕ) (r : Result ℕ Refusal) where
   pub decide-split-keeps : (r ≡ answer_of (decide_split_answer text cuts n)) × (out ≡ memory (decide_split_answer text cuts n) former) →
       (r ≡ answer_of (decide_split_answer text cuts n)) × ((out ≡ memory (decide_split_answer text cuts n) former)
       × (Delivers (report_length r) out (KeepsTickByCases text cuts) × Delivers (report_length r) out (UndecidedByCases text cuts)))

@@ -1,4 +1,5 @@
 -- The statements of `specs/Promises`, each proved by its name, and where the decision by cases refuses. Assumes nothing.
+use Rattle.std.specs.Prelude.{Err, Ok, Result, ⊤}
 use Prim.Native.Nat.{ℕ, ◌≤◌}
 use mathlib.Core.Path.{◌≡◌, ap}
 use mathlib.Core.Bool.{Bool, true, false, cond}
@@ -8,8 +9,6 @@ use lib.Dec.{ltb}
 use Rattle.refusals.specs.declared.Refusal.{Refusal}
 use Rattle.refusals.specs.declared.Refusal.TheVariants.{ReportMemory}
 use Rattle.refusals.specs.Refusals.{place}
-use Rattle.refusals.specs.declared.Acceptance as checks
-use Rattle.refusals.specs.declared.Acceptance.TheVariants.{Accepted, Refused}
 use Rattle.text.specs.Text.{lines}
 use Rattle.bound_theory.specs.Tree.{Report, Verdict}
 use Rattle.file_format.specs.Routine.{Routine, Reading, read_bound}
@@ -67,20 +66,20 @@ split-decision-refused text cuts n r = (
   from (ltb n memory_limit) (read_bound text) (cuts_checked text cuts),
 )
   where
-    by : (Routine → Answer) → checks.Acceptance → Bool → Reading → Answer
+    by : (Routine → Answer) → Result ⊤ Refusal → Bool → Reading → Answer
     by f v b m = cond b (refused ReportMemory) (of_reading (λ x. checked v (f x)) m)
 
-    to : (b : Bool) (m : Reading) (v : checks.Acceptance) → by (decide_cases cuts) v b m ≡ refused r → by (cases_routine cuts) v b m ≡ refused r
+    to : (b : Bool) (m : Reading) (v : Result ⊤ Refusal) → by (decide_cases cuts) v b m ≡ refused r → by (cases_routine cuts) v b m ≡ refused r
     to true m v e = e
     to false (readings.unread y) v e = e
-    to false (readings.routine x) (Refused y) e = e
-    to false (readings.routine x) Accepted e = same-refusal _ (bound_text x.tick) (split x.code (cuts_of cuts) x.start) r e
+    to false (readings.routine x) (Err y) e = e
+    to false (readings.routine x) (Ok tt) e = same-refusal _ (bound_text x.tick) (split x.code (cuts_of cuts) x.start) r e
 
-    from : (b : Bool) (m : Reading) (v : checks.Acceptance) → by (cases_routine cuts) v b m ≡ refused r → by (decide_cases cuts) v b m ≡ refused r
+    from : (b : Bool) (m : Reading) (v : Result ⊤ Refusal) → by (cases_routine cuts) v b m ≡ refused r → by (decide_cases cuts) v b m ≡ refused r
     from true m v e = e
     from false (readings.unread y) v e = e
-    from false (readings.routine x) (Refused y) e = e
-    from false (readings.routine x) Accepted e = same-refusal _ (decision_text Split x.tick) (split x.code (cuts_of cuts) x.start) r e
+    from false (readings.routine x) (Err y) e = e
+    from false (readings.routine x) (Ok tt) e = same-refusal _ (decision_text Split x.tick) (split x.code (cuts_of cuts) x.start) r e
 
 pub decide-split-place : (text cuts : List ℕ) (n : ℕ) (r : Refusal) → decide_split_answer text cuts n ≡ refused r → place r ≤ 62000
 decide-split-place text cuts n r e = split_places text cuts n r ((split-decision-refused text cuts n r).0 e)

@@ -1,9 +1,8 @@
 -- What is promised of the bytes of a decision by cases, in terms of both texts. The contract of `decide_split` has each by its name, and
 -- `proofs/Theorems` proves what is said of all texts.
-use Rattle.std.specs.Prelude.{◌<◌, ◌↔◌, ◌≡◌}
+use Rattle.std.specs.Prelude.{◌<◌, ◌↔◌, ◌≡◌, Ok}
 use Rattle.refusals.specs.Library.{ℕ, List}
 use Rattle.answers.specs.Terms.{Routine, read_bound, reported, refused, Refusal}
-use Rattle.refusals.specs.declared.Acceptance.TheVariants.{Accepted}
 use Rattle.bound_theory.specs.Tree.{Report, accepted}
 use Rattle.file_format.specs.Routine as readings
 use Rattle.split_theory.specs.Split.{split}
@@ -18,7 +17,7 @@ use Rattle.decide_split_entry.specs.Answers.{decide_split_answer}
 -- the bytes are the decision, with the figures q, on the routine x that the text holds, under the cuts of the second text
 pub record DecidedByCases (text cuts bytes : List ℕ) (x : Routine) (q : Report) : Type 0 where
   pub reads : read_bound text ≡ readings.routine x
-  pub passes : cuts_checked text cuts ≡ Accepted
+  pub passes : cuts_checked text cuts ≡ Ok tt
   pub accepts : split x.code (cuts_of cuts) x.start ≡ accepted q
   pub prints : bytes ≡ decision_text Split x.tick q
 

@@ -17,15 +17,6 @@ fn answer(text: &[u8], out: &mut [u8]) -> usize
 }
 
 fn main(rt: HostRuntime) {
-    // one byte more than a routine file may have
-    let mut text = [0u8; 32769];
-    let input = console::read_text(&rt, &mut text);
-    if !input.is_whole {
-        console::read_failed(&rt);
-        return;
-    }
-    let n = input.length;
     let mut lines = [0u8; 65536];
-    let length = answer(&text[..n], &mut lines);
-    console::write(&rt, &lines[..length]);
+    console::print_for_text(&rt, &mut lines, answer);
 }

@@ -1,12 +1,11 @@
 -- The explanation in code is that of the definition. Assumes nothing.
+use Rattle.std.specs.Prelude.{Err, Ok, Result, ⊤}
 use Prim.Native.Nat.{ℕ, ◌+◌, ◌≤◌, zero-le}
 use mathlib.Core.Path.{◌≡◌, sym, ap, ◌∙◌}
 use mathlib.Core.List.{List, ◌++◌}
 use native.Mathlib.Omega.{arith}
 use lib.ListN.{length, drop, length-append}
 use Rattle.refusals.specs.declared.Refusal.{Refusal}
-use Rattle.refusals.specs.declared.Acceptance.TheVariants as verdicts
-use Rattle.refusals.specs.declared.Acceptance.TheVariants.{Accepted}
 use Rattle.text.specs.Text.{Line, lines}
 use Rattle.text_decimals.proofs.MemoryLaws.{Wrote}
 use Rattle.cells.specs.Cells.{unknown}
@@ -55,25 +54,25 @@ wrote-first d t o e (p, q) =
 
 -- ---- what the explorer's answer gives
 
-not-both : {A : Type 0} (x : Refusal) → Accepted ≡ verdicts.Refused x → A
+not-both : {A : Type 0} (x : Refusal) → ◌≡◌ {A = Result ⊤ Refusal} (Ok tt) (Err x) → A
 not-both x e = let z : ◌≡◌ {A = ℕ} 0 1 = cc in absurd (omega arith)
 
 module _ (ls : List Line) (x : readings.Routine) (r : Found) where
-  found-explained : (v : bounds.Verdict) → Shows r v → r.verdict ≡ Accepted → explained ls x v ≡ reported (explanation_text ls x (report_in r))
+  found-explained : (v : bounds.Verdict) → Shows r v → r.verdict ≡ Ok tt → explained ls x v ≡ reported (explanation_text ls x (report_in r))
   unfolding explained accepted_as
   found-explained (bounds.accepted q) s e = ap (λ z. reported (explanation_text ls x z)) (sym (ap report_in s ∙ report-of q))
   found-explained (bounds.refused y) s e = not-both y (sym e ∙ s)
 
-  found-refused : (v : bounds.Verdict) → Shows r v → (y : Refusal) → r.verdict ≡ verdicts.Refused y → explained ls x v ≡ refused y
+  found-refused : (v : bounds.Verdict) → Shows r v → (y : Refusal) → r.verdict ≡ Err y → explained ls x v ≡ refused y
   unfolding explained accepted_as
   found-refused (bounds.accepted q) s y e = not-both y (sym (ap (λ f. f.verdict) s) ∙ e)
-  found-refused (bounds.refused z) s y e = let h : verdicts.Refused z ≡ verdicts.Refused y = sym s ∙ e in let k : z ≡ y = cc in ap refused k
+  found-refused (bounds.refused z) s y e = let h : Err z ≡ Err y = sym s ∙ e in let k : z ≡ y = cc in ap refused k
 
-  pub routine-explained : Shows r (bound x.code x.budget x.start) → r.verdict ≡ Accepted → explain_routine ls x ≡ reported (explanation_text ls x (report_in r))
+  pub routine-explained : Shows r (bound x.code x.budget x.start) → r.verdict ≡ Ok tt → explain_routine ls x ≡ reported (explanation_text ls x (report_in r))
   unfolding explain_routine
   routine-explained = found-explained (bound x.code x.budget x.start)
 
-  pub routine-refused : Shows r (bound x.code x.budget x.start) → (y : Refusal) → r.verdict ≡ verdicts.Refused y → explain_routine ls x ≡ refused y
+  pub routine-refused : Shows r (bound x.code x.budget x.start) → (y : Refusal) → r.verdict ≡ Err y → explain_routine ls x ≡ refused y
   unfolding explain_routine
   routine-refused = found-refused (bound x.code x.budget x.start)
 

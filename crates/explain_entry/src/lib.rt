@@ -10,11 +10,10 @@ ghost use Rattle.answers.specs.Answers.{memory, answer_of};
 ghost use Rattle.explain_entry.specs.Answers.{explain_routine, explain_answer};
 ghost use Rattle.explain_entry.specs.Held.{walk_in, text_in, Printable};
 
-use answers::Answer;
 use bound_figures::Found;
 use file_check::Reader;
 use file_reader::Routine;
-use refusals::Acceptance;
+use refusals::Refusal;
 
 // Puts the lines of the routine's walk along `path` over out from `at` on, and answers where they end.
 fn put_steps(routine: Routine, path: u64, body: &[u8], out: &mut [u8], at: usize) -> usize
@@ -50,34 +49,23 @@ fn put_explanation(out: &mut [u8], body: &[u8], routine: Routine, found: Found) 
 }
 
 // The explanation of a routine, whose code lines are those of body.
-fn explain_routine(body: &[u8], routine: Routine, out: &mut [u8]) -> Answer
+fn explain_routine(body: &[u8], routine: Routine, out: &mut [u8]) -> Result<usize, Refusal>
     requires { Limited routine × Printable (lines body.now) routine (length out.old) }
     ensures value { result ≡ answer_of (explain_routine (lines body.now) (routine_in routine)) }
     ensures out_after { out.new ≡ memory (explain_routine (lines body.now) (routine_in routine)) out.old }
 {
     let found = routine_figures::explored(routine);
-    let verdict = found.verdict;
-    match verdict {
-        Acceptance::Accepted => {
-            let n = put_explanation(out, body, routine, found);
-            Answer::Reported(n)
-        }
-        Acceptance::Refused(refusal) => Answer::Refused(refusal),
-    }
+    found.verdict?;
+    Ok(put_explanation(out, body, routine, found))
 }
 
 // The explanation of a routine file: the report and the steps of its worst path in the lent memory, or a refusal.
-pub fn explain(text: &[u8], out: &mut [u8]) -> Answer
+pub fn explain(text: &[u8], out: &mut [u8]) -> Result<usize, Refusal>
     ensures value { result ≡ answer_of (explain_answer text.now (length out.old)) }
     ensures out_after { out.new ≡ memory (explain_answer text.now (length out.old)) out.old }
 {
-    let verdict = file_entry::check(Reader::Bound, 65536, out.len(), text);
-    match verdict {
-        Acceptance::Accepted => {
-            let routine = file_reader::routine_of(text);
-            let body = file_layout::body_of(text);
-            explain_routine(body, routine, out)
-        }
-        Acceptance::Refused(refusal) => Answer::Refused(refusal),
-    }
+    file_entry::check(Reader::Bound, 65536, out.len(), text)?;
+    let routine = file_reader::routine_of(text);
+    let body = file_layout::body_of(text);
+    explain_routine(body, routine, out)
 }

@@ -29,9 +29,6 @@ pub stands-first : (s : List ℕ) → Stands s (record { byte = 0; line = 0 })
 stands-first s = record { inside = omega arith; begins = refl }
 
 module _ {s : List ℕ} {c : Cursor} (i : Stands s c) where
-  pub stands-as : {b l : ℕ} → b ≡ c.byte → l ≡ c.line → Stands s (record { byte = b; line = l })
-  stands-as p q = rw (p, q) i
-
   pub stands-next : {b : ℕ} → (b ≤ length s) × (lines (drop b s) ≡ drop 1 (lines (drop c.byte s))) → Stands s (record { byte = b; line = c.line + 1 })
   stands-next (h, e) = record { inside = h; begins = e ∙ ap (drop 1) i.begins ∙ drop-drop 1 c.line (lines s) }
 

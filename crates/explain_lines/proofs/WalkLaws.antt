@@ -87,9 +87,6 @@ module _ {c : Code} {ns : List ℕ} {ls : List Line} {first : ℕ} {former : Lis
         let m : follow (step c unknown) left (decode rest) (whole ns blocks state) ≡ [] = moves-are ∙ ap (λ b. cond b (move (whole ns blocks state) (price_of w) (decode w.way) ∷ cond w.stops [] (follow (step c unknown) (left - 1) (decode w.rest) (whole ns w.blocks w.state))) []) (negated w.made n) in
         ended i.made (sym (append-nil i.made) ∙ ap (λ ms. i.made ++ listing ls first (entries_from spent sum ms)) (sym m) ∙ i.whole_is) i.wrote
 
-    pub sums-fit : (spent + w.cycles ≤ 8796093022208) × (sum + w.words ≤ 4398046511104)
-    sums-fit = (omega (arith, h.cycles, i.cycles), omega (arith, h.words, i.words))
-
     -- it is made
     module _ (made : not w.made ≡ false) (line : List ℕ) (line-is : line ≡ code_text ls first state.at) where
       abbrev written : List ℕ

@@ -57,13 +57,12 @@ pub fn seek(body: &[u8], from: Cursor, k: usize) -> Cursor
         byte = 0;
         line = 0;
     }
-    while line < k {
+    for _ in line..k {
         byte = line_after(body, byte);
-        line += 1;
     }
     Cursor {
         byte: byte,
-        line: line,
+        line: k,
     }
 }
 
@@ -124,9 +123,8 @@ pub fn put_walk(
     let mut spent: u64 = 0;
     let mut sum: u64 = 0;
     let first = code[0] as usize;
-    let mut left = code[1] as usize;
     let mut cursor = Cursor { byte: 0, line: 0 };
-    while 0 < left {
+    for _ in 0..code[1] {
         let walked = explain_walk::walk(code, rest, state, blocks);
         if !walked.made {
             return e;
@@ -144,7 +142,6 @@ pub fn put_walk(
         state = walked.state;
         let reached = walked.blocks;
         blocks = reached;
-        left -= 1;
     }
     e
 }

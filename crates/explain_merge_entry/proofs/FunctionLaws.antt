@@ -1,4 +1,5 @@
 -- The explanation of the merging bound in code is that of the definition. Assumes nothing.
+use Rattle.std.specs.Prelude.{Err, Ok, Result, ⊤}
 use Prim.Native.Nat.{ℕ, ◌+◌, ◌-◌, ◌≤◌}
 use mathlib.Core.Path.{◌≡◌, refl, sym, ap, subst, ◌∙◌}
 use mathlib.Core.List.{List, [], ◌++◌}
@@ -6,8 +7,6 @@ use native.Mathlib.Omega.{arith}
 use lib.ListN.{length, take, drop, length-drop}
 use lib.Seq.{take_all}
 use Rattle.refusals.specs.declared.Refusal.{Refusal}
-use Rattle.refusals.specs.declared.Acceptance.TheVariants as verdicts
-use Rattle.refusals.specs.declared.Acceptance.TheVariants.{Accepted}
 use Rattle.text.specs.Text.{Line, lines}
 use Rattle.cells.specs.Cells.{unknown}
 use Rattle.machine.specs.Machine.{step, reblock}
@@ -86,30 +85,30 @@ way-written x ls ks gs most at e l = way-text ls (first_address_of x.code) ks gs
 
 -- ---- what the answer of the pass gives
 
-not-both : {A : Type 0} (x : Refusal) → Accepted ≡ verdicts.Refused x → A
+not-both : {A : Type 0} (x : Refusal) → ◌≡◌ {A = Result ⊤ Refusal} (Ok tt) (Err x) → A
 not-both x e = let z : ◌≡◌ {A = ℕ} 0 1 = cc in absurd (omega arith)
 
 module _ (ls : List Line) (x : readings.Routine) (r : Found) where
-  found-explained : (v : bounds.Verdict) → Shows r v → r.verdict ≡ Accepted → merge_explained ls x v ≡ reported (merge_explanation_text ls x (report_in r))
+  found-explained : (v : bounds.Verdict) → Shows r v → r.verdict ≡ Ok tt → merge_explained ls x v ≡ reported (merge_explanation_text ls x (report_in r))
   unfolding merge_explained accepted_as
   found-explained (bounds.accepted q) s e = ap (λ z. reported (merge_explanation_text ls x z)) (sym (ap report_in s ∙ report-of q))
   found-explained (bounds.refused y) s e = not-both y (sym e ∙ s)
 
-  found-refused : (v : bounds.Verdict) → Shows r v → (y : Refusal) → r.verdict ≡ verdicts.Refused y → merge_explained ls x v ≡ refused y
+  found-refused : (v : bounds.Verdict) → Shows r v → (y : Refusal) → r.verdict ≡ Err y → merge_explained ls x v ≡ refused y
   unfolding merge_explained accepted_as
   found-refused (bounds.accepted q) s y e = not-both y (sym (ap (λ f. f.verdict) s) ∙ e)
-  found-refused (bounds.refused z) s y e = let h : verdicts.Refused z ≡ verdicts.Refused y = sym s ∙ e in let k : z ≡ y = cc in ap refused k
+  found-refused (bounds.refused z) s y e = let h : Err z ≡ Err y = sym s ∙ e in let k : z ≡ y = cc in ap refused k
 
-  pub routine-explained : Shows r (merged x.code x.start) → r.verdict ≡ Accepted → explain_merge_routine ls x ≡ reported (merge_explanation_text ls x (report_in r))
+  pub routine-explained : Shows r (merged x.code x.start) → r.verdict ≡ Ok tt → explain_merge_routine ls x ≡ reported (merge_explanation_text ls x (report_in r))
   unfolding explain_merge_routine
   routine-explained = found-explained (merged x.code x.start)
 
-  pub routine-refused : Shows r (merged x.code x.start) → (y : Refusal) → r.verdict ≡ verdicts.Refused y → explain_merge_routine ls x ≡ refused y
+  pub routine-refused : Shows r (merged x.code x.start) → (y : Refusal) → r.verdict ≡ Err y → explain_merge_routine ls x ≡ refused y
   unfolding explain_merge_routine
   routine-refused = found-refused (merged x.code x.start)
 
   -- it is accepted
-  pub shown-accepted : (v : bounds.Verdict) → Shows r v → r.verdict ≡ Accepted → (q : bounds.Report) × (v ≡ bounds.accepted q)
+  pub shown-accepted : (v : bounds.Verdict) → Shows r v → r.verdict ≡ Ok tt → (q : bounds.Report) × (v ≡ bounds.accepted q)
   unfolding accepted_as
   shown-accepted (bounds.accepted q) s e = (q, refl)
   shown-accepted (bounds.refused y) s e = not-both y (sym e ∙ s)

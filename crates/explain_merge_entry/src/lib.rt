@@ -12,11 +12,10 @@ ghost use Rattle.merge_origins.specs.HeldOrigins.{Goals, Keeps};
 ghost use Rattle.explain_merge_entry.specs.Answers.{explain_merge_routine, explain_merge_answer};
 ghost use Rattle.explain_merge_entry.specs.Held.{origins_in, way_in, merge_text_in, MergePrintable};
 
-use answers::Answer;
 use bound_figures::Found;
 use file_check::Reader;
 use file_reader::Routine;
-use refusals::Acceptance;
+use refusals::Refusal;
 
 // Puts the lines of the routine's costliest way, of which the last moves are kept, over out from `at` on, and answers where they end.
 fn put_steps(routine: Routine, kept: &[u64], body: &[u8], out: &mut [u8], at: usize) -> usize
@@ -59,7 +58,7 @@ fn put_explanation(
 }
 
 // The explanation of a routine's merging bound, whose code lines are those of body.
-fn explain_routine(body: &[u8], routine: Routine, out: &mut [u8]) -> Answer
+fn explain_routine(body: &[u8], routine: Routine, out: &mut [u8]) -> Result<usize, Refusal>
     requires { Limited routine × MergePrintable (lines body.now) routine (length out.old) }
     ensures value { result ≡ answer_of (explain_merge_routine (lines body.now) (routine_in routine)) }
     ensures out_after { out.new ≡ memory (explain_merge_routine (lines body.now) (routine_in routine)) out.old }
@@ -69,28 +68,17 @@ fn explain_routine(body: &[u8], routine: Routine, out: &mut [u8]) -> Answer
     let start = routine.start;
     let mut kept = [0; 6156];
     let found = merge_sweep::sweep(&code, start, blocks, &mut kept);
-    let verdict = found.verdict;
-    match verdict {
-        Acceptance::Accepted => {
-            let n = put_explanation(out, body, routine, found, &kept);
-            Answer::Reported(n)
-        }
-        Acceptance::Refused(refusal) => Answer::Refused(refusal),
-    }
+    found.verdict?;
+    Ok(put_explanation(out, body, routine, found, &kept))
 }
 
 // The explanation of a routine file's merging bound: its report and its costliest way in the lent memory, or a refusal.
-pub fn explain_merge(text: &[u8], out: &mut [u8]) -> Answer
+pub fn explain_merge(text: &[u8], out: &mut [u8]) -> Result<usize, Refusal>
     ensures value { result ≡ answer_of (explain_merge_answer text.now (length out.old)) }
     ensures out_after { out.new ≡ memory (explain_merge_answer text.now (length out.old)) out.old }
 {
-    let verdict = file_entry::check(Reader::Bound, 65536, out.len(), text);
-    match verdict {
-        Acceptance::Accepted => {
-            let routine = file_reader::routine_of(text);
-            let body = file_layout::body_of(text);
-            explain_routine(body, routine, out)
-        }
-        Acceptance::Refused(refusal) => Answer::Refused(refusal),
-    }
+    file_entry::check(Reader::Bound, 65536, out.len(), text)?;
+    let routine = file_reader::routine_of(text);
+    let body = file_layout::body_of(text);
+    explain_routine(body, routine, out)
 }

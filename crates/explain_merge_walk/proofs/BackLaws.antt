@@ -74,13 +74,13 @@ drop-none [] (suc i) h = refl
 drop-none (g ∷ gs) zero h = absurd (omega arith)
 drop-none (g ∷ gs) (suc i) h = drop-none gs i (omega arith)
 
-pub backing-starts : (ks : List ℕ) (most : ℕ) (gs : List ℕ) → length gs ≡ 1025 → most ≤ 1025 → Backing ks most gs 1025 1025 most
-backing-starts ks most gs l h = record {
+pub backing-starts : (ks : List ℕ) (most left : ℕ) (gs : List ℕ) → left ≡ most → length gs ≡ 1025 → most ≤ 1025 → Backing ks most gs 1025 1025 left
+backing-starts ks most left gs all l h = record {
   long = l;
-  room = h;
+  room = omega arith;
   within = omega arith;
   few = omega arith;
-  lists = λ first o k. ([], rw (drop-none gs 1025 (omega arith)) none, ap (λ (g : Goal). way_back o most (o g) []) (goal-stop first));
+  lists = λ first o k. ([], rw (drop-none gs 1025 (omega arith)) none, ap₂ (λ (n : ℕ) (g : Goal). way_back o n (o g) []) all (goal-stop first));
 }
 
 module _ {ks : List ℕ} {most : ℕ} {gs : List ℕ} {place goal left : ℕ} (i : Backing ks most gs place goal left) where

@@ -6,7 +6,7 @@ use native.Mathlib.Omega.{arith}
 use lib.ListN.{length, get_or, drop, length-append}
 use Rattle.text.specs.Text.{Line, no_line}
 use Rattle.text_decimals.specs.Memory.{over}
-use Rattle.text_decimals.proofs.MemoryLaws.{Wrote, wrote_none, wrote-more}
+use Rattle.text_decimals.proofs.MemoryLaws.{Wrote, wrote-more}
 use Rattle.machine.specs.Machine.{height}
 use Rattle.bound_theory.specs.Tree.{Decision, Report}
 use Rattle.bound_theory.specs.Traces.{Move}
@@ -48,17 +48,6 @@ pub record Writing (ls : List Line) (ks gs : List ℕ) (former : List ℕ) (star
   pub words : sum ≤ 4294967296 * i
   pub within : i ≤ length gs
   pub whole_is : made ++ remaining ls ks gs i spent sum ≡ total
-
-pub writing-starts : (ls : List Line) (ks gs former : List ℕ) (start : ℕ) → start ≤ length former → Writing ls ks gs former start (way_text ls 0 0 ks gs) former start 0 0 0
-writing-starts ls ks gs former start h = record {
-  made = [];
-  wrote = wrote_none former start h;
-  long = refl;
-  cycles = omega arith;
-  words = omega arith;
-  within = omega arith;
-  whole_is = refl;
-}
 
 drop-next : (gs : List ℕ) (i : ℕ) → i < length gs → drop i gs ≡ get_or gs i 0 ∷ drop (suc i) gs
 drop-next [] i h = absurd (omega arith)

@@ -18,8 +18,7 @@ pub fn way_back(kept: &[u64], most: usize, goals: &mut [u64]) -> usize
 {
     let mut place = 1025;
     let mut goal = 1025;
-    let mut left = most;
-    while 0 < left {
+    for _ in 0..most {
         let l = merge_origins::last_of(kept, goal);
         if l.way == 0 {
             return place;
@@ -27,7 +26,6 @@ pub fn way_back(kept: &[u64], most: usize, goals: &mut [u64]) -> usize
         place -= 1;
         goals[place] = goal as u64;
         goal = l.row as usize;
-        left -= 1;
     }
     place
 }
@@ -42,15 +40,13 @@ pub fn put_way(out: &mut [u8], at: usize, body: &[u8], kept: &[u64], goals: &[u6
     let mut spent: u64 = 0;
     let mut sum: u64 = 0;
     let mut cursor = Cursor { byte: 0, line: 0 };
-    let mut i = 0;
-    while i < goals.len() {
-        let l = merge_origins::last_of(kept, goals[i] as usize);
+    for goal in goals {
+        let l = merge_origins::last_of(kept, *goal as usize);
         spent = spent + l.cycles;
         sum = sum + l.words;
         cursor = explain_lines::seek(body, cursor, l.row as usize);
         let line = explain_lines::line_under(body, cursor);
         e = explain_lines::put_entry(out, e, line, spent, sum, l.depth, l.way);
-        i += 1;
     }
     e
 }

@@ -1,4 +1,5 @@
 -- What the rows look at, as the code finds it in a text. Assumes nothing.
+use Rattle.std.specs.Prelude.{None}
 use Prim.Native.Nat.{ℕ, ◌≤◌, min}
 use mathlib.Core.Path.{◌≡◌, ap, ◌∙◌}
 use mathlib.Core.List.{List}
@@ -9,7 +10,6 @@ use Rattle.text.specs.Text.{Line, lines}
 use Rattle.file_format.specs.declared.Section.TheVariants.{Kinds as kinds, Primitives as primitives, Fields as fields}
 use Rattle.file_format.specs.declared.Role.TheVariants.{Names as names}
 use Rattle.file_format.specs.declared.Row.TheVariants.{Range as range-row}
-use Rattle.file_format.specs.declared.RefusedLine.TheVariants.{Nowhere as nowhere}
 use Rattle.file_format.specs.Layout.{layout, body, lines_of_code, list, text_at, listed}
 use Rattle.file_format.specs.Rows.{block_sizes, first_at, refused_line}
 use Rattle.file_format.specs.Routine.{first_address}
@@ -46,7 +46,7 @@ module _ (text ks ps fs rest : List ℕ) (short : length text ≤ 32768) (k : ks
   }
 
 -- once row 3 refuses nothing, the first address is the number that the first AT spells
-module _ {ls : List Line} {ks ps : List ℕ} {blocks first count : ℕ} (x : Context ls ks ps blocks first count) (range : refused_line range-row ls ≡ nowhere) where
+module _ {ls : List Line} {ks ps : List ℕ} {blocks first count : ℕ} (x : Context ls ks ps blocks first count) (range : refused_line range-row ls ≡ None) where
   pub address_is : pos first ≡ first_at (body ls)
   address_is = ap pos x.address_first ∙ first-natural ls range
 

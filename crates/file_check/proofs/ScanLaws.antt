@@ -1,4 +1,5 @@
 -- The roles of the lines as a scan meets them: one for each line, and those of the lines that are missing. Assumes nothing.
+use Rattle.std.specs.Prelude.{None, Some}
 use Prim.Native.Nat.{ℕ, zero, suc, ◌+◌, ◌-◌, ◌<◌, ◌≤◌}
 use mathlib.Core.Path.{◌≡◌, refl, sym, ap, ap₂, ◌∙◌}
 use mathlib.Core.Bool.{Bool, true, false, cond, ◌&&◌}
@@ -14,7 +15,6 @@ use Rattle.text.specs.Text.{bytes, equals, Line}
 use Rattle.file_format.specs.declared.Section.TheVariants.{Answers as answers}
 use Rattle.file_format.specs.declared.Role.{Role}
 use Rattle.file_format.specs.declared.Role.TheVariants.{Names as names, Code as code, Answer as answer}
-use Rattle.file_format.specs.declared.RefusedLine.TheVariants.{Nowhere as nowhere, Line as line}
 use Rattle.file_format.specs.Layout.{layout, is_answer, body, answer_roles, code_roles, body_roles, roles}
 use Rattle.file_format.specs.Rows.{earliest}
 use Rattle.file_check.specs.HeldScan.{HeadingBefore, is_heading, role_of, heading_after, missing}
@@ -126,36 +126,36 @@ heading-next i m text k =
 -- past the last line, a role is left where a line is missing, and else none
 
 module _ (t : Role → Line → Bool) where
-  no_line : (n : ℕ) (r : Role) (rs : List Role) → earliest t n (r ∷ rs) [] ≡ line n
+  no_line : (n : ℕ) (r : Role) (rs : List Role) → earliest t n (r ∷ rs) [] ≡ Some n
   unfolding earliest
   no_line n r rs = refl
 
-  no-role : (n : ℕ) → earliest t n [] [] ≡ nowhere
+  no-role : (n : ℕ) → earliest t n [] [] ≡ None
   unfolding earliest
   no-role n = refl
 
-  layout-ends : (n i m : ℕ) → i < length layout → earliest t n (remaining i m []) [] ≡ line n
+  layout-ends : (n i m : ℕ) → i < length layout → earliest t n (remaining i m []) [] ≡ Some n
   layout-ends n i m h =
       let d : drop i layout ≡ get_or layout i (code 0) ∷ drop (suc i) layout = drop-cons layout i (code 0) h in
       ap (λ rs. earliest t n rs []) (in-layout i m [] h ∙ ap (λ rs. rs ++ body_roles (drop (length layout - i) [])) d) ∙ no_line n _ _
 
-  first_ends : (n : ℕ) → earliest t n (remaining (length layout) 0 []) [] ≡ line n
+  first_ends : (n : ℕ) → earliest t n (remaining (length layout) 0 []) [] ≡ Some n
   unfolding body_roles
   first_ends n = ap (λ rs. earliest t n rs []) (at_first []) ∙ no_line n (code 0) []
 
-  code-ends : (n i : ℕ) → length layout < i → earliest t n (remaining i 0 []) [] ≡ nowhere
+  code-ends : (n i : ℕ) → length layout < i → earliest t n (remaining i 0 []) [] ≡ None
   unfolding code_roles
   code-ends n i h = ap (λ rs. earliest t n rs []) (at_code i [] h) ∙ no-role n
 
-  answer-none : (n : ℕ) → earliest t n (answer_roles 0 []) [] ≡ line n
+  answer-none : (n : ℕ) → earliest t n (answer_roles 0 []) [] ≡ Some n
   unfolding answer_roles
   answer-none n = no_line n (answer 0) []
 
-  answer-some : (n j : ℕ) → earliest t n (answer_roles (suc j) []) [] ≡ nowhere
+  answer-some : (n j : ℕ) → earliest t n (answer_roles (suc j) []) [] ≡ None
   unfolding answer_roles
   answer-some n j = no-role n
 
-  answers-end : (n i m : ℕ) → length layout < m → m < i → earliest t n (remaining i m []) [] ≡ cond (eqb i (m + 1)) (line n) nowhere
+  answers-end : (n i m : ℕ) → length layout < m → m < i → earliest t n (remaining i m []) [] ≡ cond (eqb i (m + 1)) (Some n) None
   answers-end n i m h k =
       let b : m + 1 ≤ i = omega arith in
       ap (λ rs. earliest t n rs []) (at-answer i m [] h k) ∙
@@ -166,23 +166,23 @@ module _ (t : Role → Line → Bool) where
       rw (z, ne_eqb i (m + 1) (omega arith)) (answer-some n (i - m - 2)))
       (eq-or-lt_of_le b)
 
-  pub scan-ends : (n i m : ℕ) → HeadingBefore i m → earliest t n (remaining i m []) [] ≡ cond (missing i m) (line n) nowhere
+  pub scan-ends : (n i m : ℕ) → HeadingBefore i m → earliest t n (remaining i m []) [] ≡ cond (missing i m) (Some n) None
   unfolding missing
   scan-ends n i m k =
       ⊎_elim (λ (e : m ≡ 0). rw e (go (ltb i (length layout)) refl))
       (λ (p : (length layout < m) × (m < i)). rw (lt-leb i (length layout) (omega arith), lt-ltb 0 m (omega arith)) (answers-end n i m p.0 p.1)) k.heading
     where
-      past : (length layout ≡ i) ⊎ (length layout < i) → earliest t n (remaining i 0 []) [] ≡ cond (cond (leb i (length layout)) true false) (line n) nowhere
+      past : (length layout ≡ i) ⊎ (length layout < i) → earliest t n (remaining i 0 []) [] ≡ cond (cond (leb i (length layout)) true false) (Some n) None
       past (inl e) = rw (← e) (first_ends n)
       past (inr h) = rw (lt-leb i (length layout) (omega arith)) (code-ends n i h)
 
-      go : (b : Bool) → ltb i (length layout) ≡ b → earliest t n (remaining i 0 []) [] ≡ cond (cond (leb i (length layout)) true false) (line n) nowhere
+      go : (b : Bool) → ltb i (length layout) ≡ b → earliest t n (remaining i 0 []) [] ≡ cond (cond (leb i (length layout)) true false) (Some n) None
       go true e = let h = ltb-true i (length layout) e in rw (le-leb i (length layout) (omega arith)) (layout-ends n i 0 h)
       go false e = past (eq-or-lt_of_le (ltb-false i (length layout) e))
 
   -- a line that passes is followed by the others, and one that fails is the earliest
 
-  pub scan-fails : (n i m : ℕ) → HeadingBefore i m → (l : Line) (ls : List Line) → t (role_of i m l.text) l ≡ false → earliest t n (remaining i m (l ∷ ls)) (l ∷ ls) ≡ line n
+  pub scan-fails : (n i m : ℕ) → HeadingBefore i m → (l : Line) (ls : List Line) → t (role_of i m l.text) l ≡ false → earliest t n (remaining i m (l ∷ ls)) (l ∷ ls) ≡ Some n
   unfolding earliest
   scan-fails n i m k l ls e = rw (remaining-more i m k l ls, e) refl
 

@@ -1,11 +1,8 @@
 -- What a check of a text says, by the rows of the refusal table.
-use Rattle.std.specs.Prelude.{◌≡◌}
+use Rattle.refusals.specs.declared.Refusal.{Refusal}
+use Rattle.std.specs.Prelude.{◌≡◌, Err, None, Ok, Option, Result, Some, ⊤}
 use Rattle.refusals.specs.Library.{ℕ, eqb, ltb, Bool, cond, List}
-use Rattle.refusals.specs.declared.Acceptance.{Acceptance}
-use Rattle.refusals.specs.declared.Acceptance.TheVariants.{Accepted, Refused}
 use Rattle.text.specs.Text.{Line}
-use Rattle.file_format.specs.declared.RefusedLine.{RefusedLine}
-use Rattle.file_format.specs.declared.RefusedLine.TheVariants.{Nowhere as nowhere, Line as line}
 use Rattle.file_format.specs.declared.Row.{Row}
 use Rattle.file_format.specs.declared.Row.TheVariants.{Layout as Layout-row, Range as range-row, Name as name-row, Price as price-row, Target as target_row, Forward as forward-row, Known as known-row}
 use Rattle.file_format.specs.Rows.{refused_line, Passes}
@@ -21,18 +18,18 @@ read_by Bound text = read_bound text
 read_by Run text = read_run text
 
 -- the refusal of a reading, if it is refused
-unfoldable pub check_of : Reading → Acceptance
-check_of (unread r) = Refused r
-check_of (routine x) = Accepted
+unfoldable pub check_of : Reading → Result ⊤ Refusal
+check_of (unread r) = Err r
+check_of (routine x) = Ok tt
 
 -- a row is due once the rows before it refuse no line: "Checked in the order of the rows"
 abbrev pub Due : Row → List Line → Type 0
 Due Layout-row ls = Unit {0}
-Due range-row ls = refused_line Layout-row ls ≡ nowhere
-Due name-row ls = (refused_line Layout-row ls ≡ nowhere) × (refused_line range-row ls ≡ nowhere)
-Due price-row ls = (refused_line Layout-row ls ≡ nowhere) × (refused_line range-row ls ≡ nowhere) × (refused_line name-row ls ≡ nowhere)
-Due target_row ls = (refused_line Layout-row ls ≡ nowhere) × (refused_line range-row ls ≡ nowhere) × (refused_line name-row ls ≡ nowhere) × (refused_line price-row ls ≡ nowhere)
-Due forward-row ls = (refused_line Layout-row ls ≡ nowhere) × (refused_line range-row ls ≡ nowhere) × (refused_line name-row ls ≡ nowhere) × (refused_line price-row ls ≡ nowhere) × (refused_line target_row ls ≡ nowhere)
+Due range-row ls = refused_line Layout-row ls ≡ None
+Due name-row ls = (refused_line Layout-row ls ≡ None) × (refused_line range-row ls ≡ None)
+Due price-row ls = (refused_line Layout-row ls ≡ None) × (refused_line range-row ls ≡ None) × (refused_line name-row ls ≡ None)
+Due target_row ls = (refused_line Layout-row ls ≡ None) × (refused_line range-row ls ≡ None) × (refused_line name-row ls ≡ None) × (refused_line price-row ls ≡ None)
+Due forward-row ls = (refused_line Layout-row ls ≡ None) × (refused_line range-row ls ≡ None) × (refused_line name-row ls ≡ None) × (refused_line price-row ls ≡ None) × (refused_line target_row ls ≡ None)
 Due known-row ls = Passes ls
 
 -- what the test of a row came to
@@ -60,5 +57,5 @@ unfoldable pub kept_after : ℕ → Bool → ℕ → ℕ
 kept_after kept passes n = cond (ltb 0 kept) kept (cond passes 0 n)
 
 -- the line that a number kept stands for: 0 for none
-unfoldable pub refused_at : ℕ → RefusedLine
-refused_at n = cond (eqb n 0) nowhere (line n)
+unfoldable pub refused_at : ℕ → Option ℕ
+refused_at n = cond (eqb n 0) None (Some n)

@@ -1,9 +1,8 @@
 // The rows of the refusal table over the lines of a text. The meaning is in specs/.
 #![tactic(auto)]
 
-ghost use Rattle.std.specs.Prelude.{◌≡◌, true, ◌&&◌, List, ◌⊎◌, ℕ, ◌≤◌, length};
+ghost use Rattle.std.specs.Prelude.{◌≡◌, true, ◌&&◌, List, ◌⊎◌, ℕ, ◌≤◌, length, Some};
 ghost use Rattle.text.specs.Text.{Line, lines, place_among, among};
-ghost use Rattle.text.specs.declared.Place.TheVariants.{At};
 ghost use Rattle.file_format.specs.declared.Role.TheVariants.{Names, Code};
 ghost use Rattle.file_format.specs.declared.Section.TheVariants.{Fields};
 ghost use Rattle.file_format.specs.declared.Row.{Row};
@@ -20,8 +19,7 @@ use file_code::CodeWords;
 use file_format::{Role, Section};
 use file_lines::WordTest;
 use instructions::Argument;
-use refusals::{Acceptance, Refusal};
-use text::Place;
+use refusals::Refusal;
 
 // Which program reads a text: the run has one row more.
 #[derive(Clone, Copy)]
@@ -175,7 +173,7 @@ fn test_line(
 }
 
 // Row 5 on a code line, where it is due.
-fn is_priced(kinds: &[u8], prices: &mut [u8; 61], kind: Place, op: &[u8], due: bool) -> bool
+fn is_priced(kinds: &[u8], prices: &mut [u8; 61], kind: Option<usize>, op: &[u8], due: bool) -> bool
     requires kind_value { kind ≡ place_among op.now kind_names }
     requires prices_kept { PricesKept (list kinds.now) prices.old }
     ensures priced { due ≡ true → result ≡ among op.now (list kinds.now) }
@@ -242,7 +240,7 @@ fn test_code(
 ) -> Tests
     requires first_bound { (at.first ≤ 60000) × (at.count ≤ 32768) × (at.k ≤ 32768) }
     requires prices_kept { PricesKept (list kinds.now) prices.old }
-    requires cut { Cut line.now words × ((i : ℕ) → words.kind ≡ At i → takes ≡ (kind_at i).argument) }
+    requires cut { Cut line.now words × ((i : ℕ) → words.kind ≡ Some i → takes ≡ (kind_at i).argument) }
     ensures tests { (ls : List Line) (blocks : ℕ) → Context ls kinds.now primitives.now blocks at.first at.count → (row : Row) → Due row ls → ((row ≡ Name) ⊎ (row ≡ Price) → at.due ≡ true) → tested_by row result ≡ test row ls (Code at.k) (line_with line.now at.ended) }
     ensures kept { PricesKept (list kinds.now) prices.new }
 {
@@ -421,6 +419,7 @@ fn scan(
     let mut rest = text;
     let mut passed: usize = 0;
     let mut heading: usize = 0;
+    // A while: the lines of a text are met by cutting off the first, and how many there are is known only at its end.
     while 0 < rest.len() {
         let line = text::first_line(rest);
         let ended = text::line_ends(rest, line.len());
@@ -457,7 +456,7 @@ fn check_rows(
     kinds: &[u8],
     primitives: &[u8],
     counts: Counts,
-) -> Acceptance
+) -> Result<(), Refusal>
     requires text_len_bound { length text.now ≤ 32768 }
     requires context { Context (lines text.now) kinds.now primitives.now counts.blocks counts.first counts.count }
     requires starts { Starts text.now places.now }
@@ -465,38 +464,38 @@ fn check_rows(
 {
     let refused = scan(text, places, kinds, primitives, counts);
     if 0 < refused.layout {
-        return Acceptance::Refused(Refusal::Layout(refused.layout));
+        return Err(Refusal::Layout(refused.layout));
     }
     if 0 < refused.range {
-        return Acceptance::Refused(Refusal::OutOfRange(refused.range));
+        return Err(Refusal::OutOfRange(refused.range));
     }
     if 0 < refused.name {
-        return Acceptance::Refused(Refusal::BadName(refused.name));
+        return Err(Refusal::BadName(refused.name));
     }
     if 0 < refused.price {
-        return Acceptance::Refused(Refusal::Unpriced(refused.price));
+        return Err(Refusal::Unpriced(refused.price));
     }
     if 0 < refused.target {
-        return Acceptance::Refused(Refusal::NoTarget(refused.target));
+        return Err(Refusal::NoTarget(refused.target));
     }
     if 0 < refused.forward {
-        return Acceptance::Refused(Refusal::Backward(refused.forward));
+        return Err(Refusal::Backward(refused.forward));
     }
     let Reader::Run = reader else {
-        return Acceptance::Accepted;
+        return Ok(());
     };
     if 0 < refused.known {
-        return Acceptance::Refused(Refusal::UnknownCell(refused.known));
+        return Err(Refusal::UnknownCell(refused.known));
     }
-    Acceptance::Accepted
+    Ok(())
 }
 
 // The refusal of a text, as the bound or the run reads it. What the rows look at beside a line is found once.
-pub fn check(reader: Reader, text: &[u8]) -> Acceptance
+pub fn check(reader: Reader, text: &[u8]) -> Result<(), Refusal>
     ensures { result ≡ check_of (read_by reader text.now) }
 {
     if 32768 < text.len() {
-        return Acceptance::Refused(Refusal::TextLength);
+        return Err(Refusal::TextLength);
     }
     let places = file_layout::starts_of(text);
     let kinds = file_layout::line_in(text, &places, Role::Names(Section::Kinds));

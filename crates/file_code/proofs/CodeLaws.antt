@@ -1,4 +1,5 @@
 -- Laws of a code line: of the argument that OP calls for, and of addresses counted from the first. Assumes nothing.
+use Rattle.std.specs.Prelude.{None, Option, Some}
 use Prim.Native.Nat.{ℕ, zero, suc, ◌+◌, ◌-◌, ◌<◌, ◌≤◌}
 use mathlib.Core.Path.{◌≡◌, refl, sym, ap, ap₂, subst, ◌∙◌}
 use mathlib.Core.Bool.{Bool, true, false, cond, ◌&&◌}
@@ -16,8 +17,6 @@ use mir.Val.{SFits, of_z, to_z}
 use mir.ValLaws.{to_z-of_z, to_z_pos}
 use borrow.Author.Tests.{eqb-true, eqb-false, leb-true, leb-false, le-leb, lt-leb, ltb-true, ltb-false, le-ltb}
 use Rattle.text.specs.Text.{among, place_among}
-use Rattle.text.specs.declared.Place.{Place}
-use Rattle.text.specs.declared.Place.TheVariants.{At, Missing}
 use Rattle.text_decimals.specs.Decimal.{numeral}
 use Rattle.text_decimals.specs.HeldMagnitude.{most}
 use Rattle.numbers.specs.declared.Range.{Range}
@@ -36,12 +35,12 @@ use Rattle.file_format.proofs.RangeLaws.{Natural, natural-within}
 -- ---- the argument that OP calls for
 
 -- no test fails where OP is unknown
-pub argument-none : (t : Argument → Bool) {p : Place} → p ≡ Missing → true ≡ argument_of t p
+pub argument-none : (t : Argument → Bool) {p : Option ℕ} → p ≡ None → true ≡ argument_of t p
 unfolding argument_of
 argument-none t q = sym (ap (argument_of t) q)
 
 -- the kind at k takes the argument a, and x is the test's answer for it
-pub argument-some : (t : Argument → Bool) {p : Place} {k : ℕ} {a : Argument} {x : Bool} → p ≡ At k → a ≡ (kind_at k).argument → x ≡ t a → x ≡ argument_of t p
+pub argument-some : (t : Argument → Bool) {p : Option ℕ} {k : ℕ} {a : Argument} {x : Bool} → p ≡ Some k → a ≡ (kind_at k).argument → x ≡ t a → x ≡ argument_of t p
 unfolding argument_of
 argument-some t q e h = h ∙ ap t e ∙ sym (ap (argument_of t) q)
 
@@ -215,7 +214,7 @@ module _ (first : ℤ) (n : ℕ) (h : within first_addresses first ≡ true) (l 
 -- ---- the tests of a code line by those of its words
 
 -- a test of the argument w of the kind at p, which OP names
-pub on_line : (f : List ℕ → Argument → Bool) (line : List ℕ) {w : List ℕ} {p : Place} {x : Bool} → w ≡ arg line → p ≡ place_among (op line) kind_names → x ≡ argument_of (f w) p → x ≡ on_argument (f (arg line)) line
+pub on_line : (f : List ℕ → Argument → Bool) (line : List ℕ) {w : List ℕ} {p : Option ℕ} {x : Bool} → w ≡ arg line → p ≡ place_among (op line) kind_names → x ≡ argument_of (f w) p → x ≡ on_argument (f (arg line)) line
 unfolding on_argument
 on_line f line e q h = h ∙ ap₂ (λ v o. argument_of (f v) o) e q
 

@@ -1,4 +1,5 @@
 -- What is kept of the search for the prices of kinds. Assumes nothing.
+use Rattle.std.specs.Prelude.{Some}
 use Prim.Native.Nat.{ℕ, ◌<◌}
 use mathlib.Core.Path.{◌≡◌, refl, sym, ap, ◌∙◌}
 use mathlib.Core.Bool.{Bool, true, false, cond}
@@ -10,7 +11,6 @@ use lib.ListN.{length, get_or, set, length-set, replicate, get_or-replicate}
 use lib.Seq.{get_or-set_same, get_or-set_other}
 use borrow.Author.Tests.{eqb-true, eqb-false}
 use Rattle.text.specs.Text.{place_among, among}
-use Rattle.text.specs.declared.Place.TheVariants.{At}
 use Rattle.instructions.specs.Kinds.{kind_names}
 use Rattle.instructions.proofs.ColumnLaws.{kind-below}
 use Rattle.file_code.specs.HeldCode.{PricesKept}
@@ -20,7 +20,7 @@ one-is : (b : Bool) → eqb (cond b 1 2) 1 ≡ b
 one-is true = refl
 one-is false = refl
 
-module _ (ks : List (List ℕ)) (kept : List ℕ) (s : PricesKept ks kept) (w : List ℕ) {k : ℕ} (q : place_among w kind_names ≡ At k) where
+module _ (ks : List (List ℕ)) (kept : List ℕ) (s : PricesKept ks kept) (w : List ℕ) {k : ℕ} (q : place_among w kind_names ≡ Some k) where
   pub place-low : k < 61
   place-low = kind-below w q
 

@@ -1,7 +1,7 @@
 -- What the words of a code line are, and what the tests of the rows come to on them.
-use Rattle.std.specs.Prelude.{◌<◌, ◌+ℤ◌, ◌&&◌, ◌⊎◌, ◌≡◌}
+use Rattle.std.specs.Prelude.{◌<◌, ◌+ℤ◌, ◌&&◌, ◌⊎◌, ◌≡◌, Option}
 use Rattle.refusals.specs.Library.{ℕ, eqb, ltb, ℤ, pos, length, get_or, Bool, cond, List, []}
-use Rattle.file_format.specs.Terms.{all, numeral, Place}
+use Rattle.file_format.specs.Terms.{all, numeral}
 use Rattle.text.specs.Text.{place_among, among}
 use Rattle.instructions.specs.Kinds.{kind_names}
 use Rattle.file_format.specs.Rows.{is_numeral, argument_of, argument_laid_out, argument_in_range, argument_named, argument_reaches, argument_forward, at, op, arg, on_argument, code_in_range, code_named, code_is_forward}
@@ -22,7 +22,7 @@ pub record Cut (line : List ℕ) (c : CodeWords) : Type 0 where
   pub arg_length : c.arg ≡ length (arg line)
 
 -- the tests of the argument w of the kind at a place, on code line k, where the code has n addresses from `first` on and the primitives are ps
-pub record ArgumentTests (first : ℤ) (n : ℕ) (ps : List (List ℕ)) (k : ℕ) (w : List ℕ) (p : Place) (t : Tested) : Type 0 where
+pub record ArgumentTests (first : ℤ) (n : ℕ) (ps : List (List ℕ)) (k : ℕ) (w : List ℕ) (p : Option ℕ) (t : Tested) : Type 0 where
   pub layout : t.layout ≡ argument_of (argument_laid_out w) p
   pub range : t.range ≡ argument_of (argument_in_range w) p
   pub name : t.name ≡ argument_of (argument_named ps w) p

@@ -2,11 +2,10 @@
 // and of `file_format`.
 #![tactic(auto)]
 
-ghost use Rattle.std.specs.Prelude.{true, cond, ◌&&◌, ◌≡◌, ℕ, suc, ◌<◌, ◌≤◌, pos, ◌+ℤ◌, List, [], length, get_or};
+ghost use Rattle.std.specs.Prelude.{true, cond, ◌&&◌, ◌≡◌, ℕ, suc, ◌<◌, ◌≤◌, pos, ◌+ℤ◌, List, [], length, get_or, Some};
 ghost use Rattle.text.specs.Text.{line_words, place_among, among};
 ghost use Rattle.text_decimals.specs.Decimal.{numeral};
 ghost use Rattle.text_decimals.specs.HeldMagnitude.{clamped};
-ghost use Rattle.text.specs.declared.Place.TheVariants.{At};
 ghost use Rattle.numbers.specs.Numbers.{within, same};
 ghost use Rattle.instructions.specs.Kinds.{kind_names, kind_at};
 ghost use Rattle.instructions.specs.HeldColumns.{Keyed, Begins, Joined, range_of};
@@ -18,8 +17,6 @@ ghost use Rattle.file_code.specs.HeldCode.{is_whole, Cut, ArgumentTests, CodeTes
 
 use instructions::Argument;
 use numbers::Range;
-use text::Place;
-use text_decimals::Numeral;
 
 // What follows the first word of a line, which has e bytes, and the space after it; no bytes where nothing does.
 pub fn after_word(line: &[u8], e: usize) -> &[u8]
@@ -60,7 +57,7 @@ pub struct Tested {
 }
 
 // Row 2 on the argument w, of which n was read as a number.
-fn argument_laid_out(a: Argument, w: &[u8], n: Numeral) -> bool
+fn argument_laid_out(a: Argument, w: &[u8], n: Option<i64>) -> bool
     requires { n ≡ clamped (numeral w.now) }
     ensures { result ≡ argument_laid_out w.now a }
 {
@@ -73,7 +70,7 @@ fn argument_laid_out(a: Argument, w: &[u8], n: Numeral) -> bool
 }
 
 // Row 3 on an argument that was read as n.
-fn argument_in_range(a: Argument, n: Numeral) -> bool
+fn argument_in_range(a: Argument, n: Option<i64>) -> bool
     requires { Near (range_of a) }
     ensures { (w : List ℕ) → n ≡ clamped (numeral w) → result ≡ argument_in_range w a }
 {
@@ -95,7 +92,7 @@ fn argument_named(primitives: &[u8], a: Argument, w: &[u8]) -> bool
 }
 
 // Whether the number that was read is one of the `count` addresses from `first` on.
-fn is_reached(first: i64, count: usize, n: Numeral) -> bool
+fn is_reached(first: i64, count: usize, n: Option<i64>) -> bool
     requires first_value { within first_addresses first ≡ true }
     requires count_bound { count ≤ 32768 }
     ensures { (w : List ℕ) → n ≡ clamped (numeral w) → result ≡ argument_reaches first count w Target }
@@ -114,7 +111,7 @@ fn is_reached(first: i64, count: usize, n: Numeral) -> bool
 }
 
 // Row 6 on an argument that was read as n, where the code has `count` addresses from `first` on.
-fn argument_reaches(first: i64, count: usize, a: Argument, n: Numeral) -> bool
+fn argument_reaches(first: i64, count: usize, a: Argument, n: Option<i64>) -> bool
     requires first_value { within first_addresses first ≡ true }
     requires count_bound { count ≤ 32768 }
     ensures { (w : List ℕ) → n ≡ clamped (numeral w) → result ≡ argument_reaches first count w a }
@@ -126,7 +123,7 @@ fn argument_reaches(first: i64, count: usize, a: Argument, n: Numeral) -> bool
 }
 
 // Row 13 on an argument of code line k that was read as n, where the first address is `first`.
-fn argument_forward(first: i64, k: usize, a: Argument, n: Numeral) -> bool
+fn argument_forward(first: i64, k: usize, a: Argument, n: Option<i64>) -> bool
     requires first_value { within first_addresses first ≡ true }
     requires k_bound { k ≤ 32768 }
     ensures { (w : List ℕ) → n ≡ clamped (numeral w) → result ≡ argument_forward (first +ℤ pos k) w a }
@@ -145,16 +142,16 @@ fn test_argument(
     count: usize,
     primitives: &[u8],
     k: usize,
-    kind: Place,
+    kind: Option<usize>,
     a: Argument,
     w: &[u8],
 ) -> Tested
     requires first_value { within first_addresses first ≡ true }
     requires count_bound { (count ≤ 32768) × (k ≤ 32768) }
-    requires by_index { (i : ℕ) → kind ≡ At i → (i < 61) × (a ≡ (kind_at i).argument) }
+    requires by_index { (i : ℕ) → kind ≡ Some i → (i < 61) × (a ≡ (kind_at i).argument) }
     ensures { ArgumentTests first count (list primitives.now) k w.now kind result }
 {
-    let Place::At(_) = kind else {
+    let Some(_) = kind else {
         return Tested {
             layout: true,
             range: true,
@@ -185,17 +182,17 @@ fn both(a: bool, b: bool) -> bool
 }
 
 // Whether a kind was found.
-fn is_known(kind: Place) -> bool
+fn is_known(kind: Option<usize>) -> bool
     ensures { (w : List ℕ) → kind ≡ place_among w kind_names → result ≡ among w kind_names }
 {
-    let Place::At(_) = kind else {
+    let Some(_) = kind else {
         return false;
     };
     true
 }
 
 // Whether the address that was read as n is that of code line k.
-fn is_address(first: i64, k: usize, n: Numeral) -> bool
+fn is_address(first: i64, k: usize, n: Option<i64>) -> bool
     requires first_value { within first_addresses first ≡ true }
     requires k_bound { k ≤ 32768 }
     ensures { (w : List ℕ) → n ≡ clamped (numeral w) → result ≡ same (value w) (first +ℤ pos k) }
@@ -217,14 +214,14 @@ pub fn test_code(
     count: usize,
     primitives: &[u8],
     k: usize,
-    kind: Place,
+    kind: Option<usize>,
     a: Argument,
     own: &[u8],
     w: &[u8],
 ) -> Tested
     requires first_value { within first_addresses first ≡ true }
     requires count_bound { (count ≤ 32768) × (k ≤ 32768) }
-    requires by_index { (i : ℕ) → kind ≡ At i → (i < 61) × (a ≡ (kind_at i).argument) }
+    requires by_index { (i : ℕ) → kind ≡ Some i → (i < 61) × (a ≡ (kind_at i).argument) }
     ensures { (line : List ℕ) → own.now ≡ at line → w.now ≡ arg line → kind ≡ place_among (op line) kind_names → CodeTests first count (list primitives.now) k line result }
 {
     let argument = test_argument(first, count, primitives, k, kind, a, w);
@@ -249,7 +246,7 @@ pub fn test_code(
 // The words of a code line: the kind that OP names, by its place, and how many bytes AT, OP and ARG have.
 #[derive(Clone, Copy)]
 pub struct CodeWords {
-    pub kind: Place,
+    pub kind: Option<usize>,
     pub at: usize,
     pub op: usize,
     pub arg: usize,
@@ -283,13 +280,13 @@ fn one_or_two(yes: bool) -> u8
 
 // Row 5 on a code line whose OP is `op`, the name of the kind at a place, and `kinds` the line of the kinds that have a price. What the search
 // found of a kind is kept: 1 where it has a price, 2 where it has none, and 0 as long as it was not looked for.
-pub fn code_priced(kinds: &[u8], kept: &mut [u8; 61], kind: Place, op: &[u8]) -> bool
+pub fn code_priced(kinds: &[u8], kept: &mut [u8; 61], kind: Option<usize>, op: &[u8]) -> bool
     requires kind_value { kind ≡ place_among op.now kind_names }
     requires prices_kept { PricesKept (list kinds.now) kept.old }
     ensures priced { result ≡ among op.now (list kinds.now) }
     ensures kept { PricesKept (list kinds.now) kept.new }
 {
-    let Place::At(k) = kind else {
+    let Some(k) = kind else {
         return file_layout::is_listed(op, kinds);
     };
     let known = kept[k];

@@ -6,15 +6,15 @@ ghost use Rattle.file_check.specs.HeldChecks.{read_by, check_of};
 ghost use Rattle.file_entry.specs.Held.{admitted};
 
 use file_check::Reader;
-use refusals::{Acceptance, Refusal};
+use refusals::Refusal;
 
 // Whether a text is read: refusal 10 where fewer bytes are lent than the limit, then 1 to 6, 13 and, for a run, 11. Where it is accepted,
 // `file_reader::routine_of` makes its routine.
-pub fn check(reader: Reader, limit: usize, lent: usize, text: &[u8]) -> Acceptance
+pub fn check(reader: Reader, limit: usize, lent: usize, text: &[u8]) -> Result<(), Refusal>
     ensures { result ≡ check_of (admitted limit lent (read_by reader text.now)) }
 {
     if lent < limit {
-        return Acceptance::Refused(Refusal::ReportMemory); // before the text is read
+        return Err(Refusal::ReportMemory); // before the text is read
     }
     file_check::check(reader, text)
 }

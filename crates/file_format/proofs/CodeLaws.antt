@@ -1,4 +1,5 @@
 -- What rows 2 and 4 say of a code line, part by part, and that the kind that OP names is known. Assumes nothing.
+use Rattle.std.specs.Prelude.{None, Option, Some}
 use Prim.Native.Nat.{ℕ, ◌<◌}
 use mathlib.Core.Path.{◌≡◌, refl, sym, subst, ◌∙◌}
 use mathlib.Core.Bool.{Bool, true, ◌&&◌, false≢true}
@@ -8,8 +9,6 @@ use lib.IntN.{pos, ◌+ℤ◌}
 use lib.ListN.{length}
 use borrow.Author.Tests.{eqb-true, ltb-true}
 use Rattle.text.specs.Text.{line_words, Line, place_among, among}
-use Rattle.text.specs.declared.Place.{Place}
-use Rattle.text.specs.declared.Place.TheVariants.{At, Missing}
 use Rattle.text_decimals.specs.Decimal.{numeral}
 use Rattle.text.proofs.TextLaws.{and_left, and_right, is_found, among-place}
 use Rattle.numbers.specs.Numbers.{same}
@@ -56,14 +55,14 @@ code-named ls k text e =
     record { kind = and_right follows kind e₂; argument = and_right (follows && kind) argument e }
 
 -- a kind's name has a place in the table
-pub kind-there : (w : List ℕ) → among w kind_names ≡ true → (k : ℕ) × (place_among w kind_names ≡ At k)
+pub kind-there : (w : List ℕ) → among w kind_names ≡ true → (k : ℕ) × (place_among w kind_names ≡ Some k)
 kind-there w e = go (place_among w kind_names) refl (sym (among-place 0 w kind_names) ∙ e)
   where
-    go : (p : Place) → place_among w kind_names ≡ p → is_found p ≡ true → (k : ℕ) × (place_among w kind_names ≡ At k)
-    go (At k) q f = (k, q)
-    go Missing q f = absurd (false≢true f)
+    go : (p : Option ℕ) → place_among w kind_names ≡ p → is_found p ≡ true → (k : ℕ) × (place_among w kind_names ≡ Some k)
+    go (Some k) q f = (k, q)
+    go None q f = absurd (false≢true f)
 
 -- a test of the argument is one of what the kind there calls for
-pub on-kind : (t : Argument → Bool) (text : List ℕ) (k : ℕ) → place_among (op text) kind_names ≡ At k → on_argument t text ≡ true → t (kind_at k).argument ≡ true
+pub on-kind : (t : Argument → Bool) (text : List ℕ) (k : ℕ) → place_among (op text) kind_names ≡ Some k → on_argument t text ≡ true → t (kind_at k).argument ≡ true
 unfolding on_argument argument_of
 on-kind t text k e h = subst (λ p. argument_of t p ≡ true) e h

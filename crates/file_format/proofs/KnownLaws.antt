@@ -1,4 +1,5 @@
 -- A text that rows 3 and 11 do not refuse starts from a plain state: every cell is a single number or a handle. Assumes nothing.
+use Rattle.std.specs.Prelude.{None}
 use Prim.Native.Nat.{ℕ}
 use mathlib.Core.Path.{◌≡◌, refl, ap}
 use mathlib.Core.Bool.{true, false≢true}
@@ -19,7 +20,6 @@ use Rattle.file_format.specs.declared.Role.TheVariants.{Values as values}
 use Rattle.file_format.specs.declared.CellWord.{CellWord}
 use Rattle.file_format.specs.declared.CellWord.TheVariants.{Wrong as wrong, Unknown as unknown, Known as known, Block as block, Span as span}
 use Rattle.file_format.specs.declared.Row.TheVariants.{Known as known-row}
-use Rattle.file_format.specs.declared.RefusedLine.TheVariants.{Nowhere as nowhere}
 use Rattle.file_format.specs.Layout.{layout, holds_cells, listed}
 use Rattle.file_format.specs.Rows.{cell_word, cell_in_range, is_single, column_in_range, in_range, on_cells, all_known, test, refused_line, Passes}
 use Rattle.file_format.specs.Routine.{inside, cell_of, cells_of, routine_of}
@@ -44,7 +44,7 @@ words-single (more {x} p ps) (more q qs) = cons (spelt-single (cell_word x) p q)
 
 -- ---- a text
 
-module _ {ls : List Line} (p : Passes ls) (known : refused_line known-row ls ≡ nowhere) where
+module _ {ls : List Line} (p : Passes ls) (known : refused_line known-row ls ≡ None) where
   listed-single : (s : Section) → holds_cells (values s cell) ≡ true → First (values s cell) layout → Pointwise Allowed (cells_of (listed (values s cell) ls)) (cells_of (listed (values s cell) ls))
   unfolding listed in_range column_in_range test all_known on_cells
   listed-single s h f =

@@ -1,5 +1,6 @@
 -- Laws of the rows of the refusal table on a file that was made of another: a row refuses no line where every line passes its test, and
 -- where both files have the same names, the test of a line that is no code is the same in both. Assumes nothing.
+use Rattle.std.specs.Prelude.{None}
 use Prim.Native.Nat.{ℕ, suc}
 use mathlib.Core.Path.{◌≡◌, refl, sym}
 use mathlib.Core.Bool.{Bool, true, false, false≢true}
@@ -11,19 +12,18 @@ use Rattle.file_format.specs.declared.Role.{Role}
 use Rattle.file_format.specs.declared.Role.TheVariants.{Names as names, Values as values, Code as code, Answer as answer}
 use Rattle.file_format.specs.declared.Row.{Row}
 use Rattle.file_format.specs.declared.Row.TheVariants.{Layout as Layout-row, Range as range-row, Name as name-row, Price as price-row, Target as target_row, Forward as forward-row, Known as known-row}
-use Rattle.file_format.specs.declared.RefusedLine.TheVariants.{Nowhere as nowhere}
 use Rattle.file_format.specs.Layout.{roles, listed}
 use Rattle.file_format.specs.Rows.{on_code, is_laid_out, in_range, named, priced, reaches, forward, test, earliest, refused_line}
 use Rattle.file_format.proofs.RowLaws.{Covered, rest, passed}
 
 -- ---- a row that every line passes
 
-covered-earliest : (t : Role → Line → Bool) (n : ℕ) {rs : List Role} {ls : List Line} → Covered t rs ls → earliest t n rs ls ≡ nowhere
+covered-earliest : (t : Role → Line → Bool) (n : ℕ) {rs : List Role} {ls : List Line} → Covered t rs ls → earliest t n rs ls ≡ None
 unfolding earliest
 covered-earliest t n rest = refl
 covered-earliest t n (passed p c) = rw p (covered-earliest t (suc n) c)
 
-pub covered-row : (row : Row) (ls : List Line) → Covered (test row ls) (roles ls) ls → refused_line row ls ≡ nowhere
+pub covered-row : (row : Row) (ls : List Line) → Covered (test row ls) (roles ls) ls → refused_line row ls ≡ None
 unfolding refused_line
 covered-row row ls c = covered-earliest (test row ls) 1 c
 

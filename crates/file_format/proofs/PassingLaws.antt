@@ -1,4 +1,5 @@
 -- What a text that passes rows of the refusal table has: its first address, and how many lines, cells and fields. Assumes nothing.
+use Rattle.std.specs.Prelude.{None}
 use Prim.Native.Nat.{ℕ, suc, ◌+◌, ◌<◌, ◌≤◌}
 use mathlib.Core.Path.{◌≡◌, refl}
 use mathlib.Core.Bool.{Bool, true, false, cond}
@@ -19,7 +20,6 @@ use Rattle.file_format.specs.declared.Role.{Role}
 use Rattle.file_format.specs.declared.Role.TheVariants.{Names as names, Values as values, Code as code, Answer as answer}
 use Rattle.file_format.specs.declared.Row.{Row}
 use Rattle.file_format.specs.declared.Row.TheVariants.{Layout as Layout-row, Range as range-row}
-use Rattle.file_format.specs.declared.RefusedLine.TheVariants.{Nowhere as nowhere}
 use Rattle.file_format.specs.Layout.{layout, is_answer, body, up_to_answer, past_answer, lines_of_code, answer_lines, answer_roles, code_roles, body_roles, roles, listed}
 use Rattle.file_format.specs.Rows.{value, is_numeral, at, arg, on_argument, argument_in_range, first_addresses, is_laid_out, code_in_range, in_range, block_sizes, total, well_named, named, first_at, test, refused_line, Passes}
 use Rattle.file_format.specs.Routine.{inside}
@@ -35,7 +35,7 @@ covered-drop [] ys c = c
 covered-drop (x ∷ xs) ys (passed p c) = covered-drop xs ys c
 
 -- so of the lines after the layout, where a row refuses nothing
-pub covered-body : (row : Row) (ls : List Line) → refused_line row ls ≡ nowhere → Covered (test row ls) (body_roles (body ls)) (body ls)
+pub covered-body : (row : Row) (ls : List Line) → refused_line row ls ≡ None → Covered (test row ls) (body_roles (body ls)) (body ls)
 unfolding roles body
 covered-body row ls e = covered-drop layout (body_roles (body ls)) (row-covered row ls e)
 
@@ -60,7 +60,7 @@ body-covered [] c = none
 body-covered (l ∷ bs) (passed p c) = next p (code-covered 1 bs c)
 
 -- where a row refuses no line, each code line passes its test
-pub code-passed : (row : Row) (ls : List Line) → refused_line row ls ≡ nowhere → Coded (test row ls) 0 (lines_of_code (body ls))
+pub code-passed : (row : Row) (ls : List Line) → refused_line row ls ≡ None → Coded (test row ls) 0 (lines_of_code (body ls))
 code-passed row ls e = body-covered (body ls) (covered-body row ls e)
 
 -- ---- the first address
@@ -71,7 +71,7 @@ first-within ls [] c = refl
 first-within ls (l ∷ bs) (passed p c) =
     and_left (within first_addresses (value (at l.text))) (on_argument (argument_in_range (arg l.text)) l.text) p
 
-module _ (ls : List Line) (e : refused_line range-row ls ≡ nowhere) where
+module _ (ls : List Line) (e : refused_line range-row ls ≡ None) where
   first-ranged : within first_addresses (first_at (body ls)) ≡ true
   first-ranged = first-within ls (body ls) (covered-body range-row ls e)
 
@@ -196,7 +196,7 @@ module _ (ls : List Line) where
   few-answers [] c = omega arith
   few-answers (l ∷ bs) (passed p c) = answers-past 1 bs c
 
-module _ (ls : List Line) (e : refused_line Layout-row ls ≡ nowhere) where
+module _ (ls : List Line) (e : refused_line Layout-row ls ≡ None) where
   pub code-few : length (lines_of_code (body ls)) ≤ 1024
   code-few = few-code ls (body ls) (covered-body Layout-row ls e)
 

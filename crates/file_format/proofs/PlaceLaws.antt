@@ -1,4 +1,5 @@
 -- How large a place can be: the line that a row refuses, and the addresses of a passing text. Assumes nothing.
+use Rattle.std.specs.Prelude.{None, Option, Some}
 use Prim.Native.Nat.{ℕ, suc, ◌+◌, ◌≤◌}
 use mathlib.Core.Path.{◌≡◌, refl}
 use mathlib.Core.Bool.{Bool, true, false, cond}
@@ -18,8 +19,6 @@ use Rattle.machine.specs.Machine.{index}
 use Rattle.machine.specs.Forward.{branches}
 use Rattle.machine.proofs.AddressLaws.{Confined}
 use Rattle.file_format.specs.declared.Role.{Role}
-use Rattle.file_format.specs.declared.RefusedLine.{RefusedLine}
-use Rattle.file_format.specs.declared.RefusedLine.TheVariants.{Nowhere as nowhere, Line as line}
 use Rattle.file_format.specs.Layout.{body, lines_of_code, roles}
 use Rattle.file_format.specs.Rows.{Passes, value, arg, first_at, test, earliest, refused_line}
 use Rattle.file_format.specs.Routine.{inside, PriceList, instruction_of, code_in, start_of, routine_of, unread, or_else, Check, bound_checks, run_checks, checked, text_limit, limited, read_bound, read_run}
@@ -30,13 +29,13 @@ use Rattle.file_format.proofs.PassingLaws.{first_small, lines-count, code-few}
 -- ---- lines
 
 -- a refused line is one of the lines, or the one after the last
-earliest-line : (t : Role → Line → Bool) (n : ℕ) (rs : List Role) (ls : List Line) (k : ℕ) → earliest t n rs ls ≡ line k → k ≤ n + length ls
+earliest-line : (t : Role → Line → Bool) (n : ℕ) (rs : List Role) (ls : List Line) (k : ℕ) → earliest t n rs ls ≡ Some k → k ≤ n + length ls
 unfolding earliest
 earliest-line t n [] ls k e = let z : ◌≡◌ {A = ℕ} 0 1 = cc in absurd (omega arith)
 earliest-line t n (r ∷ rs) [] k e = let f : n ≡ k = cc in omega arith
 earliest-line t n (r ∷ rs) (l ∷ ls) k e = go (t r l) e (earliest-line t (suc n) rs ls k)
   where
-    go : (b : Bool) → cond b (earliest t (suc n) rs ls) (line n) ≡ line k → (earliest t (suc n) rs ls ≡ line k → k ≤ suc n + length ls) → k ≤ n + suc (length ls)
+    go : (b : Bool) → cond b (earliest t (suc n) rs ls) (Some n) ≡ Some k → (earliest t (suc n) rs ls ≡ Some k → k ≤ suc n + length ls) → k ≤ n + suc (length ls)
     go true e ih = omega (arith, ih e)
     go false e ih = let f : n ≡ k = cc in omega arith
 
@@ -57,9 +56,9 @@ unfolding checked or_else refused_line
 checked-place ls none r e = let z : ◌≡◌ {A = ℕ} 0 1 = cc in absurd (omega arith)
 checked-place ls (more {x = c} {xs = cs} p ps) r e = go (refused_line c.row ls) refl e (checked-place ls ps r)
   where
-    go : (f : RefusedLine) → refused_line c.row ls ≡ f → or_else f c.refusal (checked cs ls) ≡ unread r → (checked cs ls ≡ unread r → place r ≤ suc (length ls)) → place r ≤ suc (length ls)
-    go nowhere q e ih = ih e
-    go (line n) q e ih =
+    go : (f : Option ℕ) → refused_line c.row ls ≡ f → or_else f c.refusal (checked cs ls) ≡ unread r → (checked cs ls ≡ unread r → place r ≤ suc (length ls)) → place r ≤ suc (length ls)
+    go None q e ih = ih e
+    go (Some n) q e ih =
         let f : c.refusal n ≡ r = cc in
         rw (← f, p n) (omega (arith, earliest-line (test c.row ls) 1 (roles ls) ls n q))
 

@@ -1,5 +1,6 @@
 -- The rows of the refusal table: a text is read exactly if no row refuses a line, the first row that does decides, and a row that does not
 -- row has a line for each role, which passes its test. Assumes nothing.
+use Rattle.std.specs.Prelude.{None, Option, Some}
 use Prim.Native.Nat.{ℕ, suc, ◌-◌, ◌<◌, ◌≤◌}
 use mathlib.Core.Path.{◌≡◌, refl, sym, ap₂, ◌∙◌}
 use mathlib.Core.Bool.{Bool, true, false, cond, not, ◌&&◌, false≢true}
@@ -18,8 +19,6 @@ use Rattle.file_format.specs.declared.Role.TheVariants.{Names as names, Code as 
 use Rattle.file_format.specs.Layout.{layout, is_answer, body, answer_roles, code_roles, body_roles, roles, is_role, text_at}
 use Rattle.file_format.specs.declared.Row.{Row}
 use Rattle.file_format.specs.declared.Row.TheVariants.{Layout as Layout-row, Range as range-row, Name as name-row, Known as known-row}
-use Rattle.file_format.specs.declared.RefusedLine.{RefusedLine}
-use Rattle.file_format.specs.declared.RefusedLine.TheVariants.{Nowhere as nowhere, Line as line}
 use Rattle.file_format.specs.Rows.{Passes, equal_lists, earliest, refused_line, test, is_laid_out, in_range, named}
 use Rattle.file_format.specs.Routine.{Routine, routine_of, Reading, unread, routine, or_else, Check, bound_checks, run_checks, checked, text_limit, limited, read_bound, read_run}
 
@@ -35,7 +34,7 @@ run-checked text = refl
 
 -- no row of cs refuses a line
 abbrev pub Unrefused : List Line → List Check → Type 0
-Unrefused ls cs = Every (λ c. refused_line c.row ls ≡ nowhere) cs
+Unrefused ls cs = Every (λ c. refused_line c.row ls ≡ None) cs
 
 refused-not : {A : Type 0} (r : Refusal) (x : Routine) → unread r ≡ routine x → A
 refused-not r x e = let z : ◌≡◌ {A = ℕ} 0 1 = cc in absurd (omega arith)
@@ -51,12 +50,12 @@ module _ (ls : List Line) where
   checked-unrefused [] x e = (none, cc)
   checked-unrefused (c ∷ cs) x e = go (refused_line c.row ls) refl e (checked-unrefused cs x)
     where
-      go : (f : RefusedLine) → refused_line c.row ls ≡ f → or_else f c.refusal (checked cs ls) ≡ routine x → (checked cs ls ≡ routine x → Unrefused ls cs × (x ≡ routine_of ls))
+      go : (f : Option ℕ) → refused_line c.row ls ≡ f → or_else f c.refusal (checked cs ls) ≡ routine x → (checked cs ls ≡ routine x → Unrefused ls cs × (x ≡ routine_of ls))
           → Unrefused ls (c ∷ cs) × (x ≡ routine_of ls)
-      go nowhere q h ih = let r = ih h in (more q r.0, r.1)
-      go (line n) q h ih = refused-not (c.refusal n) x h
+      go None q h ih = let r = ih h in (more q r.0, r.1)
+      go (Some n) q h ih = refused-not (c.refusal n) x h
 
-  first-checked : (c : Check) (after : List Check) (n : ℕ) → refused_line c.row ls ≡ line n → {before : List Check} → Unrefused ls before
+  first-checked : (c : Check) (after : List Check) (n : ℕ) → refused_line c.row ls ≡ Some n → {before : List Check} → Unrefused ls before
       → checked (before ++ c ∷ after) ls ≡ unread (c.refusal n)
   unfolding checked or_else
   first-checked c after n q none = rw q refl
@@ -103,7 +102,7 @@ module _ (ls : List Line) where
   cleared : {cs : List Check} → Passes ls → Unrefused ls cs → Unrefused ls (bound_checks ++ cs)
   cleared p es = more p.layout (more p.range (more p.names (more p.prices (more p.targets (more p.forward es)))))
 
-  only : {c : Check} → Unrefused ls (c ∷ []) → refused_line c.row ls ≡ nowhere
+  only : {c : Check} → Unrefused ls (c ∷ []) → refused_line c.row ls ≡ None
   only (more e none) = e
 
 -- the bound reads a text exactly if rows 2 to 6 and 13 refuse no line, the run exactly if row 11 does not either
@@ -116,7 +115,7 @@ pub passes-read : (text : List ℕ) → Passes (lines text) → length text ≤ 
 passes-read text p h = bound-checked text ∙ unrefused-read text (cleared (lines text) p none) h
 
 pub run-passes : (text : List ℕ) (x : Routine) → read_run text ≡ routine x
-    → Passes (lines text) × (refused_line known-row (lines text) ≡ nowhere) × (x ≡ routine_of (lines text)) × (length text ≤ text_limit)
+    → Passes (lines text) × (refused_line known-row (lines text) ≡ None) × (x ≡ routine_of (lines text)) × (length text ≤ text_limit)
 run-passes text x e =
     let r = read-unrefused text run_checks x (sym (run-checked text) ∙ e) in
     let p = passing (lines text) r.0 in
@@ -132,13 +131,13 @@ too_long text h =
 -- "Checked in the order of the rows": where the rows before c refuse no line and c does, c decides, whatever the rows after it say.
 -- `bound-order` and `run-order` say it of each row of the two readers, where `all` is refl.
 module _ (text : List ℕ) (short : length text ≤ text_limit) (before : List Check) (c : Check) (after : List Check) (n : ℕ) where
-  row-order : Unrefused (lines text) before → refused_line c.row (lines text) ≡ line n → limited text (checked (before ++ c ∷ after) (lines text)) ≡ unread (c.refusal n)
+  row-order : Unrefused (lines text) before → refused_line c.row (lines text) ≡ Some n → limited text (checked (before ++ c ∷ after) (lines text)) ≡ unread (c.refusal n)
   row-order b q = limited-short text (checked (before ++ c ∷ after) (lines text)) short ∙ first-checked (lines text) c after n q b
 
-  pub bound-order : bound_checks ≡ before ++ c ∷ after → Unrefused (lines text) before → refused_line c.row (lines text) ≡ line n → read_bound text ≡ unread (c.refusal n)
+  pub bound-order : bound_checks ≡ before ++ c ∷ after → Unrefused (lines text) before → refused_line c.row (lines text) ≡ Some n → read_bound text ≡ unread (c.refusal n)
   bound-order all b q = bound-checked text ∙ rw all (row-order b q)
 
-  pub run-order : run_checks ≡ before ++ c ∷ after → Unrefused (lines text) before → refused_line c.row (lines text) ≡ line n → read_run text ≡ unread (c.refusal n)
+  pub run-order : run_checks ≡ before ++ c ∷ after → Unrefused (lines text) before → refused_line c.row (lines text) ≡ Some n → read_run text ≡ unread (c.refusal n)
   run-order all b q = run-checked text ∙ rw all (row-order b q)
 
 -- ---- what a row gives that refuses no line
@@ -148,20 +147,20 @@ pub data Covered (t : Role → Line → Bool) : List Role → List Line → Type
   rest : {ls : List Line} → Covered t [] ls
   passed : {r : Role} {l : Line} {rs : List Role} {ls : List Line} → t r l ≡ true → Covered t rs ls → Covered t (r ∷ rs) (l ∷ ls)
 
-no_line : {A : Type 0} (n : ℕ) → line n ≡ nowhere → A
+no_line : {A : Type 0} (n : ℕ) → Some n ≡ None → A
 no_line n e = let z : ◌≡◌ {A = ℕ} 0 1 = cc in absurd (omega arith)
 
-earliest-covered : (t : Role → Line → Bool) (n : ℕ) (rs : List Role) (ls : List Line) → earliest t n rs ls ≡ nowhere → Covered t rs ls
+earliest-covered : (t : Role → Line → Bool) (n : ℕ) (rs : List Role) (ls : List Line) → earliest t n rs ls ≡ None → Covered t rs ls
 unfolding earliest
 earliest-covered t n [] ls e = rest
 earliest-covered t n (r ∷ rs) [] e = no_line n e
 earliest-covered t n (r ∷ rs) (l ∷ ls) e = go (t r l) refl e (earliest-covered t (suc n) rs ls)
   where
-    go : (b : Bool) → t r l ≡ b → cond b (earliest t (suc n) rs ls) (line n) ≡ nowhere → (earliest t (suc n) rs ls ≡ nowhere → Covered t rs ls) → Covered t (r ∷ rs) (l ∷ ls)
+    go : (b : Bool) → t r l ≡ b → cond b (earliest t (suc n) rs ls) (Some n) ≡ None → (earliest t (suc n) rs ls ≡ None → Covered t rs ls) → Covered t (r ∷ rs) (l ∷ ls)
     go true q h ih = passed q (ih h)
     go false q h ih = no_line n h
 
-pub row-covered : (row : Row) (ls : List Line) → refused_line row ls ≡ nowhere → Covered (test row ls) (roles ls) ls
+pub row-covered : (row : Row) (ls : List Line) → refused_line row ls ≡ None → Covered (test row ls) (roles ls) ls
 unfolding refused_line
 row-covered row ls e = earliest-covered (test row ls) 1 (roles ls) ls e
 
@@ -199,7 +198,7 @@ roles-enough ls =
     rw length-append (omega arith)
 
 -- so of each line, where two rows refuse none
-pub held-lines : (row row' : Row) (ls : List Line) → refused_line row ls ≡ nowhere → refused_line row' ls ≡ nowhere
+pub held-lines : (row row' : Row) (ls : List Line) → refused_line row ls ≡ None → refused_line row' ls ≡ None
     → {P : Line → Type 0} → ((r : Role) (l : Line) → test row ls r l ≡ true → test row' ls r l ≡ true → P l) → Every P ls
 held-lines row row' ls e e' f = every-line f (roles ls) ls (roles-enough ls) (row-covered row ls e) (row-covered row' ls e')
 
@@ -220,7 +219,7 @@ held {t} r P f (x ∷ rs) bs s (passed {l} {ls} p c) = go (is_role r x) s (λ q.
     go false q ih = ih q
 
 -- so of each role of the layout, where a row refuses no line
-pub held-row : (row : Row) (ls : List Line) → refused_line row ls ≡ nowhere → (r : Role) → First r layout
+pub held-row : (row : Row) (ls : List Line) → refused_line row ls ≡ None → (r : Role) → First r layout
     → (P : List ℕ → Type 0) → ((l : Line) → test row ls r l ≡ true → P l.text) → P (text_at r layout ls)
 unfolding roles
 held-row row ls e r s P f = held r P f layout (body_roles (body ls)) s (row-covered row ls e)
@@ -234,7 +233,7 @@ spaced : (ls : List Line) (r : Role) (l : Line) → test Layout-row ls r l ≡ t
 unfolding test
 spaced ls r l h = and_left (l.ended && all (λ w. not (is_empty w)) (line_words l.text)) (is_laid_out ls r l.text) h
 
-pub lines-ended : (ls : List Line) → refused_line Layout-row ls ≡ nowhere → Every (λ l. l.ended ≡ true) ls
+pub lines-ended : (ls : List Line) → refused_line Layout-row ls ≡ None → Every (λ l. l.ended ≡ true) ls
 lines-ended ls e =
     held-lines Layout-row Layout-row ls e e (λ r l h g. and_left l.ended (all (λ w. not (is_empty w)) (line_words l.text)) (spaced ls r l h))
 

@@ -1,5 +1,6 @@
 -- "ASCII": an accepted text is, with no check of its own, since each of its words is a fixed word, a number, a cell or a name that the
 -- rows know. Assumes nothing.
+use Rattle.std.specs.Prelude.{None, Option, Some, ℤ}
 use Prim.Native.Nat.{ℕ, zero, suc, ◌+◌, ◌<◌}
 use mathlib.Core.Path.{◌≡◌, refl, ap, subst, ◌∙◌}
 use mathlib.Core.Bool.{Bool, true, false, cond, ◌&&◌, false≢true}
@@ -9,8 +10,6 @@ use lib.Dec.{eqb, leb, ltb, lit<}
 use lib.ListN.{length, get_or, take, drop, take-append-drop}
 use borrow.Author.Tests.{eqb-true, leb-true, ltb-true}
 use Rattle.text.specs.Text.{bytes, equals, line_words, Line, lines, among, all, distinct}
-use Rattle.text_decimals.specs.declared.Numeral.{Numeral}
-use Rattle.text_decimals.specs.declared.Numeral.TheVariants.{Misspelt as misspelt, Number as number}
 use Rattle.text_decimals.specs.Decimal.{numeral, is_digit, digits, decimal}
 use Rattle.text.proofs.TextLaws.{Every, more, every_append, every-left, every_map, all-every, and_left, and_right, equals-path, among-every, split-every, lines-every}
 use Rattle.text_decimals.proofs.DecimalLaws.{digit-ascii, decimal-digits, numeral-ascii}
@@ -54,19 +53,19 @@ spelt-ascii : (w : List ℕ) → is_numeral (numeral w) ≡ true → Ascii w
 unfolding is_numeral
 spelt-ascii w e = go (numeral w) refl e
   where
-    go : (n : Numeral) → numeral w ≡ n → is_numeral n ≡ true → Ascii w
-    go misspelt q h = absurd (false≢true h)
-    go (number z) q h = numeral-ascii w z q
+    go : (n : Option ℤ) → numeral w ≡ n → is_numeral n ≡ true → Ascii w
+    go None q h = absurd (false≢true h)
+    go (Some z) q h = numeral-ascii w z q
 
-known-spelt : (n : Numeral) → is_cell (known_of n) ≡ true → is_numeral n ≡ true
+known-spelt : (n : Option ℤ) → is_cell (known_of n) ≡ true → is_numeral n ≡ true
 unfolding is_cell known_of is_numeral
-known-spelt misspelt e = e
-known-spelt (number z) e = refl
+known-spelt None e = e
+known-spelt (Some z) e = refl
 
-block-spelt : (n : Numeral) → is_cell (block_of n) ≡ true → is_numeral n ≡ true
+block-spelt : (n : Option ℤ) → is_cell (block_of n) ≡ true → is_numeral n ≡ true
 unfolding is_cell block_of is_numeral
-block-spelt misspelt e = e
-block-spelt (number z) e = refl
+block-spelt None e = e
+block-spelt (Some z) e = refl
 
 -- two full stops between two parts
 parts-ascii : (n : ℕ) (w : List ℕ) → Ascii (take n w) → get_or w n 0 ≡ 46 → get_or w (suc n) 0 ≡ 46 → Ascii (drop (suc (suc n)) w) → Ascii w
@@ -75,11 +74,11 @@ parts-ascii zero (x ∷ []) a p q b = more {x = x} (omega arith) Every.none
 parts-ascii zero (x ∷ y ∷ ws) a p q b = more {x = x} (omega arith) (more {x = y} (omega arith) b)
 parts-ascii (suc n) (x ∷ ws) (more h a) p q b = more {x = x} h (parts-ascii n ws a p q b)
 
-span-spelt : (m n : Numeral) → is_cell (span_of m n) ≡ true → (is_numeral m ≡ true) × (is_numeral n ≡ true)
+span-spelt : (m n : Option ℤ) → is_cell (span_of m n) ≡ true → (is_numeral m ≡ true) × (is_numeral n ≡ true)
 unfolding is_cell span_of is_numeral
-span-spelt misspelt n e = absurd (false≢true e)
-span-spelt (number lo) misspelt e = absurd (false≢true e)
-span-spelt (number lo) (number hi) e = (refl, refl)
+span-spelt None n e = absurd (false≢true e)
+span-spelt (Some lo) None e = absurd (false≢true e)
+span-spelt (Some lo) (Some hi) e = (refl, refl)
 
 spanned-ascii : (w : List ℕ) → is_cell (spanned w) ≡ true → Ascii w
 unfolding spanned

@@ -1,11 +1,11 @@
 -- The routine of a text that passes refusals 1 to 6 and 13, and which refusal a text has that does not.
 -- Every definition is total: what a passing text never needs is 0 or empty.
-use Rattle.std.specs.Prelude.{◌∷◌, ◌++◌}
+use Rattle.std.specs.Prelude.{◌∷◌, ◌++◌, Option, None, Some}
 use Rattle.refusals.specs.Library.{ℕ, ltb, ℤ, pos, nat_abs, length, get_or, take, drop, cond, List, [], map}
 use Rattle.machine.specs.Terms.{numbers, within, Cell, handle, exactly, between, Argument, Absent, Target, Primitive, Within, kind_at, kind_names, addresses, State, Code}
 use Rattle.machine.specs.Terms.{Instruction, Price}
 use Rattle.file_format.specs.Terms.{Refusal, TextLength, Layout, OutOfRange, BadName, Line, lines, find, Section, limits, kinds, primitives, cells, fields, limit}
-use Rattle.file_format.specs.Terms.{cycles, words-column, extra, cell, names, values, RefusedLine, nowhere, line}
+use Rattle.file_format.specs.Terms.{cycles, words-column, extra, cell, names, values}
 use Rattle.refusals.specs.declared.Refusal.TheVariants.{Unpriced, NoTarget, Backward, UnknownCell}
 use Rattle.numbers.specs.declared.Range.{Range}
 use Rattle.cells.specs.Cells as Cells-of
@@ -128,9 +128,9 @@ pub data Reading : Type 0 where
   routine : Routine → Reading
 
 -- the refusal at the line that a row refuses, or what comes next
-unfoldable pub or_else : RefusedLine → (ℕ → Refusal) → Reading → Reading
-or_else nowhere r next = next
-or_else (line n) r next = unread (r n)
+unfoldable pub or_else : Option ℕ → (ℕ → Refusal) → Reading → Reading
+or_else None r next = next
+or_else (Some n) r next = unread (r n)
 
 -- a row of the refusal table, and its refusal at a line
 pub record Check : Type 0 where

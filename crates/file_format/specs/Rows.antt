@@ -1,17 +1,14 @@
 -- Refusals 2 to 6, 13 and 11: each row of the refusal table is a test of one line, and refuses the earliest line that fails it.
 -- (document 01, The routine file and Refusal table; document 02 §8)
-use Rattle.std.specs.Prelude.{◌+◌, ◌+ℤ◌, ◌&&◌, ◌∷◌, ◌++◌, ◌≡◌}
+use Rattle.std.specs.Prelude.{◌+◌, ◌+ℤ◌, ◌&&◌, ◌∷◌, ◌++◌, ◌≡◌, None, Option, Some}
 use Rattle.refusals.specs.Library.{ℕ, zero, suc, eqb, ltb, leb, ℤ, pos, nat_abs, le_z, lt_z, length, get_or, take, drop, Bool, true, false, cond, not, List}
 use Rattle.refusals.specs.Library.{[]}
 use Rattle.machine.specs.Terms.{numbers, within, naturals, Argument, Absent, Target, Primitive, Within, kind_at, kind_names, addresses}
-use Rattle.file_format.specs.Terms.{bytes, Line, line_words, is_empty, equals, all, decimal, numeral, Place, Section, limits, kinds, primitives, cells, fields}
-use Rattle.file_format.specs.Terms.{instructions, answers, limit, cycles, words-column, extra, cell, names, values, RefusedLine, nowhere, line}
+use Rattle.file_format.specs.Terms.{bytes, Line, line_words, is_empty, equals, all, decimal, numeral, Section, limits, kinds, primitives, cells, fields}
+use Rattle.file_format.specs.Terms.{instructions, answers, limit, cycles, words-column, extra, cell, names, values}
 use Rattle.numbers.specs.declared.Range.{Range}
 use Rattle.numbers.specs.Numbers.{same}
 use Rattle.text.specs.Text.{parted_by, place_among, among, distinct}
-use Rattle.text.specs.declared.Place.TheVariants.{At, Missing}
-use Rattle.text_decimals.specs.declared.Numeral.{Numeral}
-use Rattle.text_decimals.specs.declared.Numeral.TheVariants.{Misspelt as misspelt, Number as number}
 use Rattle.text_decimals.specs.Decimal.{is_digit}
 use Rattle.instructions.specs.Kinds.{calls}
 use Rattle.file_format.specs.declared.Column.{Column}
@@ -26,34 +23,34 @@ use Rattle.file_format.specs.Layout.{body, lines_of_code, roles, list, holds_cel
 -- ---- words
 
 -- "spelling of a number"
-unfoldable pub is_numeral : Numeral → Bool
-is_numeral misspelt = false
-is_numeral (number z) = true
+unfoldable pub is_numeral : Option ℤ → Bool
+is_numeral None = false
+is_numeral (Some z) = true
 
 -- the number that a word spells; 0 where it spells none, which row 2 refuses
-unfoldable pub value_of : Numeral → ℤ
-value_of misspelt = pos 0
-value_of (number z) = z
+unfoldable pub value_of : Option ℤ → ℤ
+value_of None = pos 0
+value_of (Some z) = z
 
 -- the same of a word
 unfoldable pub value : List ℕ → ℤ
 value w = value_of (numeral w)
 
 -- "number, `?` for unknown, `#k` for block k (0 to 7)"
-unfoldable pub known_of : Numeral → CellWord
-known_of misspelt = wrong
-known_of (number z) = known z
+unfoldable pub known_of : Option ℤ → CellWord
+known_of None = wrong
+known_of (Some z) = known z
 
 -- what stands after `#`
-unfoldable pub block_of : Numeral → CellWord
-block_of misspelt = wrong
-block_of (number z) = block z
+unfoldable pub block_of : Option ℤ → CellWord
+block_of None = wrong
+block_of (Some z) = block z
 
 -- "A start or block cell may be `lo..hi`" (document 02 §12)
-unfoldable pub span_of : Numeral → Numeral → CellWord
-span_of misspelt n = wrong
-span_of (number lo) misspelt = wrong
-span_of (number lo) (number hi) = span lo hi
+unfoldable pub span_of : Option ℤ → Option ℤ → CellWord
+span_of None n = wrong
+span_of (Some lo) None = wrong
+span_of (Some lo) (Some hi) = span lo hi
 
 -- how many bytes stand before the first full stop, which is byte 46
 abbrev pub stop : List ℕ → ℕ
@@ -165,9 +162,9 @@ total (n ∷ ns) = n + total ns
 -- ---- a code line: "AT OP ARG"
 
 -- "The ARG of an unknown OP is not looked at.": a test of the argument that the kind at a place calls for, passed where OP is no kind
-unfoldable pub argument_of : (Argument → Bool) → Place → Bool
-argument_of t Missing = true
-argument_of t (At k) = t (kind_at k).argument
+unfoldable pub argument_of : (Argument → Bool) → Option ℕ → Bool
+argument_of t None = true
+argument_of t (Some k) = t (kind_at k).argument
 
 -- AT
 abbrev pub at : List ℕ → List ℕ
@@ -389,20 +386,20 @@ test forward-row ls r l = forward ls r l.text
 test known-row ls r l = all_known r l.text
 
 -- the earliest line that fails a test, counted from n; "A missing line has the number it would have."
-unfoldable pub earliest : (Role → Line → Bool) → ℕ → List Role → List Line → RefusedLine
-earliest t n [] ls = nowhere
-earliest t n (r ∷ rs) [] = line n
-earliest t n (r ∷ rs) (l ∷ ls) = cond (t r l) (earliest t (suc n) rs ls) (line n)
+unfoldable pub earliest : (Role → Line → Bool) → ℕ → List Role → List Line → Option ℕ
+earliest t n [] ls = None
+earliest t n (r ∷ rs) [] = Some n
+earliest t n (r ∷ rs) (l ∷ ls) = cond (t r l) (earliest t (suc n) rs ls) (Some n)
 
 -- "each over the whole file, earliest line first"
-unfoldable pub refused_line : Row → List Line → RefusedLine
+unfoldable pub refused_line : Row → List Line → Option ℕ
 refused_line row ls = earliest (test row ls) 1 (roles ls) ls
 
 -- a text that refusals 2 to 6 and 13 let through
 pub record Passes (ls : List Line) : Type 0 where
-  pub layout : refused_line Layout-row ls ≡ nowhere
-  pub range : refused_line range-row ls ≡ nowhere
-  pub names : refused_line name-row ls ≡ nowhere
-  pub prices : refused_line price-row ls ≡ nowhere
-  pub targets : refused_line target_row ls ≡ nowhere
-  pub forward : refused_line forward-row ls ≡ nowhere
+  pub layout : refused_line Layout-row ls ≡ None
+  pub range : refused_line range-row ls ≡ None
+  pub names : refused_line name-row ls ≡ None
+  pub prices : refused_line price-row ls ≡ None
+  pub targets : refused_line target_row ls ≡ None
+  pub forward : refused_line forward-row ls ≡ None

@@ -4,11 +4,8 @@ pub use Rattle.refusals.specs.declared.Refusal.TheVariants.{ReportMemory, TextLe
 pub use Rattle.text.specs.Text.{bytes, Line, is_empty, no_line}
 unfoldable pub use Rattle.text.specs.Text.{lines, line_words, equals, all, find}
 unfoldable pub use Rattle.text_decimals.specs.Decimal.{decimal, numeral}
-pub use Rattle.text.specs.declared.Place.{Place}
 pub use Rattle.file_format.specs.declared.Section.{Section}
 pub use Rattle.file_format.specs.declared.Section.TheVariants.{Limits as limits, Kinds as kinds, Primitives as primitives, Cells as cells, Fields as fields}
 pub use Rattle.file_format.specs.declared.Section.TheVariants.{Instructions as instructions, Answers as answers}
 pub use Rattle.file_format.specs.declared.Column.TheVariants.{Limit as limit, Cycles as cycles, Words as words-column, Extra as extra, Cell as cell}
 pub use Rattle.file_format.specs.declared.Role.TheVariants.{Names as names, Values as values}
-pub use Rattle.file_format.specs.declared.RefusedLine.{RefusedLine}
-pub use Rattle.file_format.specs.declared.RefusedLine.TheVariants.{Nowhere as nowhere, Line as line}

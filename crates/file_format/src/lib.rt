@@ -53,10 +53,3 @@ pub enum Row {
     Forward,
     Known,
 }
-
-// The earliest line that a row refuses, if there is one.
-#[derive(Clone, Copy)]
-pub enum RefusedLine {
-    Nowhere,
-    Line(u32),
-}

@@ -12,7 +12,7 @@ ghost use Rattle.file_format.specs.Rows.{handles, first_addresses, at_range, bud
 
 use file_format::{Column, Role, Section};
 use numbers::Range;
-use text::{Lookup, Place};
+use text::Lookup;
 
 // ---- the lines
 
@@ -122,14 +122,11 @@ pub fn text_of(text: &[u8], role: Role) -> &[u8]
     ensures { result.now ≡ text_at role layout (lines text.now) }
 {
     let mut rest = text;
-    let mut i = 0;
-    while i < LINES {
+    for i in 0..LINES {
         if is_role(role, role_at(i)) {
             return text::first_line(rest);
         }
-        let next = text::next_lines(rest);
-        rest = next;
-        i += 1;
+        rest = text::next_lines(rest);
     }
     &text[..0]
 }
@@ -153,12 +150,8 @@ pub fn starts_of(text: &[u8]) -> [usize; 15]
     ensures { Starts text.now result }
 {
     let mut starts = [0usize; 15];
-    let mut at = 0;
-    let mut i = 0;
-    while i < LINES {
-        at = next_start(text, at);
-        i += 1;
-        starts[i] = at;
+    for i in 0..LINES {
+        starts[i + 1] = next_start(text, starts[i]);
     }
     starts
 }
@@ -168,13 +161,11 @@ pub fn line_in<'a>(text: &'a [u8], starts: &[usize; 15], role: Role) -> &'a [u8]
     requires { Starts text.now starts.now }
     ensures { result.now ≡ text_at role layout (lines text.now) }
 {
-    let mut i = 0;
-    while i < LINES {
+    for i in 0..LINES {
         if is_role(role, role_at(i)) {
             let at = starts[i];
             return text::first_line(&text[at..]);
         }
-        i += 1;
     }
     &text[..0]
 }
@@ -204,6 +195,7 @@ pub fn count_code(body: &[u8]) -> usize
     }
     let mut rest = text::next_lines(body);
     let mut n = 1;
+    // A while: each turn takes a line off the rest. `split` would give one piece more, after the last line feed.
     while 0 < rest.len() {
         let line = text::first_line(rest);
         if text::same(line, b"ANSWER") {
@@ -244,7 +236,7 @@ pub fn look_up(line: &[u8], w: &[u8]) -> Lookup
 {
     if text::same(line, b"-") {
         return Lookup {
-            place: Place::Missing,
+            place: None,
             looked: 0,
         };
     }
@@ -257,7 +249,7 @@ pub fn is_listed(w: &[u8], line: &[u8]) -> bool
 {
     let found = look_up(line, w);
     let place = found.place;
-    let Place::At(_) = place else {
+    let Some(_) = place else {
         return false;
     };
     true

@@ -1,9 +1,11 @@
 -- Extras under their names: the range of a name, names that are used up, and a loop over both lines. Assumes nothing.
-use Prim.Native.Nat.{ℕ, ◌<◌, ◌≤◌}
-use mathlib.Core.Path.{◌≡◌, refl, sym, ap, ◌∙◌}
-use mathlib.Core.Bool.{Bool, true, false, ◌&&◌, and-true as and_right}
+use Prim.Native.Nat.{ℕ, ◌+◌, ◌<◌, ◌≤◌}
+use mathlib.Core.Path.{◌≡◌, refl, sym, ap, ap₂, ◌∙◌}
+use mathlib.Core.Bool.{Bool, true, false, ◌&&◌}
 use mathlib.Core.List.{List, [], ◌∷◌}
-use lib.ListN.{length, get_or, take, drop}
+use native.Mathlib.Numerals.{add-one}
+use lib.ListN.{length, get_or, drop, drop_of_length-le}
+use lib.Seq.{drop-cons}
 use Rattle.text.specs.Text.{bytes, equals, parted_by, line_words, among}
 use Rattle.text.proofs.TextLaws.{equals-path}
 use Rattle.text.proofs.ScanLaws.{first_length, past}
@@ -55,17 +57,25 @@ names-listed names ws = go (equals names (bytes "-")) refl
     go true e = ap (λ n. extras_in_range (line_words n) ws) (equals-path names (bytes "-") e) ∙ dash ∙ ap (λ ns. extras_in_range ns ws) (sym (list-none names e))
     go false e = ap (λ ns. extras_in_range ns ws) (sym (list-words names e))
 
--- ---- the extras of l under the names ns; its first word has the length n
+-- ---- the extras ws under the names above, of which k were read: the next, w, is out of the range of the next name n, it is in range, or
+-- there is none
 
-module _ (ns : List (List ℕ)) (l : List ℕ) (n : ℕ) (q : n ≡ first_length 32 l) where
-  pub extras-stop : n < length l → within (extra_range (get_or ns 0 [])) (value (take n l)) ≡ false → extras_in_range ns (line_words l) ≡ false
-  unfolding extras_in_range
-  extras-stop h e = ap (extras_in_range ns) (words_more l n q h) ∙ ap (λ b. b && extras_in_range (drop 1 ns) (line_words (past n l))) e
+module _ (above : List ℕ) (ws : List (List ℕ)) (k : ℕ) (n w : List ℕ) (h : k < length ws) (is : w ≡ get_or ws k w) (named : n ≡ get_or (line_words above) 0 []) where
+  same_test : {b : Bool} → within (extra_range n) (value w) ≡ b → within (extra_range (get_or (line_words above) 0 [])) (value (get_or ws k w)) ≡ b
+  same_test e = ap₂ (λ n w. within (extra_range n) (value w)) (sym named) (sym is) ∙ e
 
-  pub extras-next : n < length l → within (extra_range (get_or ns 0 [])) (value (take n l)) ≡ true → extras_in_range ns (line_words l) ≡ extras_in_range (drop 1 ns) (line_words (past n l))
+  pub extras-stop : within (extra_range n) (value w) ≡ false → extras_in_range (line_words above) (drop k ws) ≡ false
   unfolding extras_in_range
-  extras-next h e = ap (extras_in_range ns) (words_more l n q h) ∙ ap (λ b. b && extras_in_range (drop 1 ns) (line_words (past n l))) e
+  extras-stop e = rw (drop-cons ws k w h, same_test e) refl
 
-  pub extras-last : length l ≤ n → extras_in_range ns (line_words l) ≡ within (extra_range (get_or ns 0 [])) (value l)
+  pub extras-next : (j : ℕ) → j ≡ k + 1 → within (extra_range n) (value w) ≡ true → extras_in_range (line_words above) (drop k ws) ≡ extras_in_range (drop 1 (line_words above)) (drop j ws)
   unfolding extras_in_range
-  extras-last h = ap (extras_in_range ns) (words_last l n q h) ∙ and_right (within (extra_range (get_or ns 0 [])) (value l))
+  extras-next j next e = rw (next, add-one k, drop-cons ws k w h, same_test e) refl
+
+pub extras-end : (ns ws : List (List ℕ)) (k : ℕ) → length ws ≤ k → extras_in_range ns (drop k ws) ≡ true
+unfolding extras_in_range
+extras-end ns ws k h = rw (drop_of_length-le ws h) (none ns)
+  where
+    none : (ns : List (List ℕ)) → extras_in_range ns [] ≡ true
+    none [] = refl
+    none (n ∷ ns) = refl

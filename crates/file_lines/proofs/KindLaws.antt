@@ -1,22 +1,22 @@
 -- The kind that a word names. Assumes nothing.
+use Rattle.std.specs.Prelude.{None, Some}
 use Prim.Native.Nat.{ℕ}
 use mathlib.Core.Path.{◌≡◌, ap, ◌∙◌}
 use mathlib.Core.Bool.{true, false}
 use mathlib.Core.List.{List, []}
 use lib.ListN.{get_or}
 use Rattle.text.specs.Text.{place_among, find, among}
-use Rattle.text.specs.declared.Place.TheVariants.{At, Missing}
 use Rattle.text.proofs.TextLaws.{is_found, among-place, among-find}
 use Rattle.instructions.specs.Kinds.{kind_names}
 
-pub name-unknown : (w : List ℕ) → place_among w kind_names ≡ Missing → among w kind_names ≡ false
+pub name-unknown : (w : List ℕ) → place_among w kind_names ≡ None → among w kind_names ≡ false
 name-unknown w q = among-place 0 w kind_names ∙ ap is_found q
 
-pub name-known : (w : List ℕ) {k : ℕ} → place_among w kind_names ≡ At k → among w kind_names ≡ true
+pub name-known : (w : List ℕ) {k : ℕ} → place_among w kind_names ≡ Some k → among w kind_names ≡ true
 name-known w q = among-place 0 w kind_names ∙ ap is_found q
 
 -- the word that stands at a place is the word that was found there
-pub word-found : (w : List ℕ) {k : ℕ} → place_among w kind_names ≡ At k → get_or kind_names k [] ≡ w
+pub word-found : (w : List ℕ) {k : ℕ} → place_among w kind_names ≡ Some k → get_or kind_names k [] ≡ w
 word-found w {k} q =
     let f = among-find w kind_names (name-known w q) in
     let e : k ≡ find w kind_names = cc f.0 in

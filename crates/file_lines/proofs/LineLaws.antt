@@ -1,16 +1,14 @@
--- Laws of tests joined by `&&`, of a match, and of a loop over words. Assumes nothing.
-use Prim.Native.Nat.{ℕ, suc, ◌<◌, ◌≤◌}
+-- Laws of tests joined by `&&`, of a match, and of a range. Assumes nothing.
+use Prim.Native.Nat.{ℕ, suc, ◌<◌}
 use mathlib.Core.Path.{◌≡◌, refl, sym, ap, subst, ◌∙◌}
-use mathlib.Core.Bool.{Bool, true, false, not, ◌&&◌, and-true as and_right}
+use mathlib.Core.Bool.{Bool, true, false, not, ◌&&◌}
 use mathlib.Core.List.{List, [], ◌∷◌}
 use native.Mathlib.Omega.{arith}
 use lib.Dec.{ltb}
-use lib.ListN.{length, take}
+use lib.ListN.{length}
 use borrow.Author.Tests.{lt-ltb}
-use Rattle.text.specs.Text.{is_empty, line_words, all}
+use Rattle.text.specs.Text.{is_empty}
 use Rattle.text_decimals.specs.HeldMagnitude.{most}
-use Rattle.text.proofs.ScanLaws.{first_length, past}
-use Rattle.text.proofs.PieceLaws.{words_more, words_last}
 use Rattle.numbers.specs.declared.Range.{Range}
 use Rattle.numbers.specs.Numbers.{naturals}
 use Rattle.file_values.specs.HeldValues.{Near}
@@ -38,21 +36,6 @@ arm f p q = q ∙ sym (ap f p)
 pub filled : {A : Type 0} (l : List A) → ltb 0 (length l) ≡ not (is_empty l)
 filled [] = refl
 filled (x ∷ xs) = lt-ltb 0 (suc (length xs)) (omega arith)
-
--- ---- a test of every word of l, whose first word has the length n
-
-module _ (t : List ℕ → Bool) (l : List ℕ) (n : ℕ) (q : n ≡ first_length 32 l) where
-  pub all-stop : n < length l → t (take n l) ≡ false → all t (line_words l) ≡ false
-  unfolding all
-  all-stop h e = ap (all t) (words_more l n q h) ∙ ap (λ b. b && all t (line_words (past n l))) e
-
-  pub all-next : n < length l → t (take n l) ≡ true → all t (line_words l) ≡ all t (line_words (past n l))
-  unfolding all
-  all-next h e = ap (all t) (words_more l n q h) ∙ ap (λ b. b && all t (line_words (past n l))) e
-
-  pub all-last : length l ≤ n → all t (line_words l) ≡ t l
-  unfolding all
-  all-last h = ap (all t) (words_last l n q h) ∙ and_right (t l)
 
 -- ---- a range by its name
 

@@ -1,19 +1,17 @@
 -- Laws of the kinds that a line names, one after the other, with those that were seen marked by their places: the line is well named where
 -- each of its words names a kind that is not marked yet. Assumes nothing.
-use Prim.Native.Nat.{ℕ, ◌<◌, ◌≤◌}
+use Rattle.std.specs.Prelude.{Option, Some, None}
+use Prim.Native.Nat.{ℕ, suc, ◌+◌, ◌<◌, ◌≤◌}
 use mathlib.Core.Path.{◌≡◌, refl, sym, ap, ap₂, ◌∙◌}
 use mathlib.Core.Bool.{Bool, true, false, cond, not, ◌&&◌}
 use mathlib.Core.List.{List, [], ◌∷◌}
 use native.Mathlib.Omega.{arith}
 use lib.Dec.{eqb}
-use lib.ListN.{length, get_or, set, take, length-set, replicate, get_or-replicate}
-use lib.Seq.{get_or-set_same, get_or-set_other}
-use Rattle.text.specs.Text.{equals, place_among, among, all, distinct, line_words}
-use Rattle.text.specs.declared.Place.{Place}
-use Rattle.text.specs.declared.Place.TheVariants.{At, Missing}
+use native.Mathlib.Numerals.{add-one}
+use lib.ListN.{length, get_or, set, drop, length-set, drop_of_length-le, replicate, get_or-replicate}
+use lib.Seq.{drop-cons, get_or-set_same, get_or-set_other}
+use Rattle.text.specs.Text.{equals, place_among, among, all, distinct}
 use Rattle.text.proofs.TextLaws.{equals-path, equals-self}
-use Rattle.text.proofs.ScanLaws.{first_length, past}
-use Rattle.text.proofs.PieceLaws.{words_more, words_last}
 use Rattle.instructions.specs.Kinds.{kind_names}
 use Rattle.instructions.proofs.ColumnLaws.{kind-below}
 use Rattle.file_format.specs.declared.Section.TheVariants.{Kinds}
@@ -34,18 +32,18 @@ abbrev unmarked : List ℕ → List ℕ → Bool
 unmarked seen w = is_new seen (place_among w kind_names)
 
 -- the same of a word v after w, whose kind is marked now
-marked-word : (seen : List ℕ) (w v : List ℕ) {k : ℕ} → length seen ≡ 61 → place_among w kind_names ≡ At k → unmarked (set seen k 1) v ≡ (not (equals w v) && unmarked seen v)
+marked-word : (seen : List ℕ) (w v : List ℕ) {k : ℕ} → length seen ≡ 61 → place_among w kind_names ≡ Some k → unmarked (set seen k 1) v ≡ (not (equals w v) && unmarked seen v)
 unfolding is_new
 marked-word seen w v {k} s q = go (place_among v kind_names) refl (equals w v) refl
   where
-    go : (p : Place) → place_among v kind_names ≡ p → (b : Bool) → equals w v ≡ b → is_new (set seen k 1) p ≡ (not b && is_new seen p)
-    go Missing e true f = refl
-    go Missing e false f = refl
-    go (At j) e true f =
-        let z : At j ≡ At k = sym e ∙ ap (λ x. place_among x kind_names) (sym (equals-path w v f)) ∙ q in
+    go : (p : Option ℕ) → place_among v kind_names ≡ p → (b : Bool) → equals w v ≡ b → is_new (set seen k 1) p ≡ (not b && is_new seen p)
+    go None e true f = refl
+    go None e false f = refl
+    go (Some j) e true f =
+        let z : Some j ≡ Some k = sym e ∙ ap (λ x. place_among x kind_names) (sym (equals-path w v f)) ∙ q in
         let i : j ≡ k = cc in
         ap (λ n. eqb n 0) (ap (λ m. get_or (set seen k 1) m 0) i ∙ get_or-set_same seen k 1 0 (omega (arith, kind-below w q)))
-    go (At j) e false f = ap (λ n. eqb n 0) (get_or-set_other seen k j 1 0 other)
+    go (Some j) e false f = ap (λ n. eqb n 0) (get_or-set_other seen k j 1 0 other)
       where
         other : j ≡ k → ⊥
         other i =
@@ -97,10 +95,10 @@ new-words seen (w ∷ ws) s = go (place_among w kind_names) refl (new-words (mar
     stopped true = refl
     stopped false = refl
 
-    go : (p : Place) → place_among w kind_names ≡ p → (length (marked seen p) ≡ 61 → all_new (marked seen p) ws ≡ (distinct ws && all (unmarked (marked seen p)) ws))
+    go : (p : Option ℕ) → place_among w kind_names ≡ p → (length (marked seen p) ≡ 61 → all_new (marked seen p) ws ≡ (distinct ws && all (unmarked (marked seen p)) ws))
         → (is_new seen p && all_new (marked seen p) ws) ≡ ((not (among w ws) && distinct ws) && (is_new seen p && all (unmarked seen) ws))
-    go Missing e ih = sym (stopped (not (among w ws) && distinct ws))
-    go (At k) e ih = on (eqb (get_or seen k 0) 0)
+    go None e ih = sym (stopped (not (among w ws) && distinct ws))
+    go (Some k) e ih = on (eqb (get_or seen k 0) 0)
       where
         more : all_new (set seen k 1) ws ≡ (distinct ws && (not (among w ws) && all (unmarked seen) ws))
         more =
@@ -117,9 +115,9 @@ unmarked-first : (w : List ℕ) → unmarked (replicate 61 0) w ≡ among w kind
 unfolding is_new
 unmarked-first w = go (place_among w kind_names) refl
   where
-    go : (p : Place) → place_among w kind_names ≡ p → is_new (replicate 61 0) p ≡ among w kind_names
-    go (At k) e = ap (λ n. eqb n 0) (get_or-replicate 61 k 0 0 (kind-below w e)) ∙ sym (name-known w e)
-    go Missing e = sym (name-unknown w e)
+    go : (p : Option ℕ) → place_among w kind_names ≡ p → is_new (replicate 61 0) p ≡ among w kind_names
+    go (Some k) e = ap (λ n. eqb n 0) (get_or-replicate 61 k 0 0 (kind-below w e)) ∙ sym (name-known w e)
+    go None e = sym (name-unknown w e)
 
 swapped : (a b : Bool) → (a && b) ≡ (b && a)
 swapped true true = refl
@@ -134,19 +132,21 @@ kinds-new ws =
     ∙ ap (λ b. distinct ws && b) (all_same unmarked-first ws)
     ∙ swapped (distinct ws) (all (λ w. among w kind_names) ws))
 
--- ---- a turn of the scan: the first word of what is left ends it, or is passed; it is the last
+-- ---- a turn of the scan of the words ws, of which k are passed: the next, w, ends it, or is passed; there is none
 
-module _ (seen rest : List ℕ) (e : ℕ) (q : e ≡ first_length 32 rest) {p : Place} (k : p ≡ place_among (take e rest) kind_names) (h : e < length rest) where
-  turn : all_new seen (line_words rest) ≡ (is_new seen p && all_new (marked seen p) (line_words (past e rest)))
+module _ (seen : List ℕ) (ws : List (List ℕ)) (k : ℕ) (w : List ℕ) (h : k < length ws) (is : w ≡ get_or ws k w) {p : Option ℕ} (found : p ≡ place_among w kind_names) where
+  turn : all_new seen (drop k ws) ≡ (is_new seen p && all_new (marked seen p) (drop (suc k) ws))
   unfolding all_new
-  turn = ap (all_new seen) (words_more rest e q h) ∙ ap (λ o. is_new seen o && all_new (marked seen o) (line_words (past e rest))) (sym k)
+  turn =
+      let place : place_among (get_or ws k w) kind_names ≡ p = ap (λ w. place_among w kind_names) (sym is) ∙ sym found in
+      rw (drop-cons ws k w h, place) refl
 
-  pub new-stop : is_new seen p ≡ false → all_new seen (line_words rest) ≡ false
-  new-stop n = turn ∙ ap (λ b. b && all_new (marked seen p) (line_words (past e rest))) n
+  pub new-stop : is_new seen p ≡ false → all_new seen (drop k ws) ≡ false
+  new-stop n = turn ∙ ap (λ b. b && all_new (marked seen p) (drop (suc k) ws)) n
 
-  pub new-next : is_new seen p ≡ true → all_new seen (line_words rest) ≡ all_new (marked seen p) (line_words (past e rest))
-  new-next n = turn ∙ ap (λ b. b && all_new (marked seen p) (line_words (past e rest))) n
+  pub new-next : (after : List ℕ) (j : ℕ) → after ≡ marked seen p → j ≡ k + 1 → is_new seen p ≡ true → all_new seen (drop k ws) ≡ all_new after (drop j ws)
+  new-next after j m next n = rw (m, next, add-one k) (turn ∙ ap (λ b. b && all_new (marked seen p) (drop (suc k) ws)) n)
 
-pub new-last : (seen rest : List ℕ) (e : ℕ) → e ≡ first_length 32 rest → {p : Place} → p ≡ place_among rest kind_names → length rest ≤ e → all_new seen (line_words rest) ≡ is_new seen p
+pub new-end : (seen : List ℕ) (ws : List (List ℕ)) (k : ℕ) → length ws ≤ k → all_new seen (drop k ws) ≡ true
 unfolding all_new
-new-last seen rest e q {p} k h = ap (all_new seen) (words_last rest e q h) ∙ swapped (is_new seen (place_among rest kind_names)) true ∙ ap (is_new seen) (sym k)
+new-end seen ws k h = rw (drop_of_length-le ws h) refl

@@ -1,10 +1,9 @@
 // The tests of one line of a routine file. The meaning is in specs/ here and of `file_format`.
 #![tactic(auto)]
 
-ghost use Rattle.std.specs.Prelude.{true, ◌&&◌, ◌≡◌, ℕ, ◌<◌, List, [], drop, ltb};
+ghost use Rattle.std.specs.Prelude.{true, ◌&&◌, ◌≡◌, ℕ, ◌<◌, List, [], drop, ltb, Some};
 ghost use Rattle.text.specs.Text.{line_words, all};
 ghost use Rattle.text_decimals.specs.Decimal.{numeral};
-ghost use Rattle.text.specs.declared.Place.TheVariants.{At};
 ghost use Rattle.numbers.specs.Numbers.{within, numbers, same};
 ghost use Rattle.file_format.specs.declared.Column.TheVariants.{Limit};
 ghost use Rattle.file_format.specs.declared.Section.TheVariants.{Kinds};
@@ -13,8 +12,6 @@ ghost use Rattle.file_format.specs.Rows.{is_numeral, value, extra_range, extras_
 ghost use Rattle.file_lines.specs.HeldLines.{word_test, is_new, marked};
 
 use file_format::{Column, Role, Section};
-use text::Place;
-use text_decimals::Numeral;
 
 // What a word is tested for: that it is not empty, spells a number, one of a price's cycles or words, a cell, a cell in range, a
 // handle of one of the blocks that are present, a cell that holds one number or a handle, a name that a primitive may have.
@@ -53,16 +50,7 @@ fn word_passes(t: WordTest, w: &[u8]) -> bool
 pub fn all_words(t: WordTest, line: &[u8]) -> bool
     ensures { result ≡ all (word_test t) (line_words line.now) }
 {
-    let mut rest = line;
-    let mut e = text::piece_length(rest, b' ');
-    while e < rest.len() {
-        if !word_passes(t, &rest[..e]) {
-            return false;
-        }
-        rest = &rest[e + 1..];
-        e = text::piece_length(rest, b' ');
-    }
-    word_passes(t, rest)
+    line.split(|c| *c == b' ').all(|w| word_passes(t, w))
 }
 
 // Whether all words listed on a line pass a test: `-` lists none.
@@ -93,12 +81,12 @@ pub fn names_laid_out(s: Section, line: &[u8]) -> bool
 }
 
 // Whether the kind at a place is there and was not seen, and that it is seen now.
-fn mark(seen: &mut [u8; 61], kind: Place) -> bool
-    requires { (i : ℕ) → kind ≡ At i → i < 61 }
+fn mark(seen: &mut [u8; 61], kind: Option<usize>) -> bool
+    requires { (i : ℕ) → kind ≡ Some i → i < 61 }
     ensures new { result ≡ is_new seen.old kind }
     ensures marked { seen.new ≡ marked seen.old kind }
 {
-    let Place::At(k) = kind else {
+    let Some(k) = kind else {
         return false;
     };
     let before = seen[k];
@@ -114,18 +102,13 @@ pub fn kinds_named(line: &[u8]) -> bool
     let starts = instructions::name_starts();
     let names = instructions::all_names();
     let mut seen = [0u8; 61];
-    let mut rest = line;
-    let mut e = text::piece_length(rest, b' ');
-    while e < rest.len() {
-        let kind = instructions::kind_in(&keyed, &starts, &names, &rest[..e]);
+    for word in line.split(|c| *c == b' ') {
+        let kind = instructions::kind_in(&keyed, &starts, &names, word);
         if !mark(&mut seen, kind) {
             return false;
         }
-        rest = &rest[e + 1..];
-        e = text::piece_length(rest, b' ');
     }
-    let last = instructions::kind_in(&keyed, &starts, &names, rest);
-    mark(&mut seen, last)
+    true
 }
 
 // ---- lines of values
@@ -190,19 +173,14 @@ fn extras_in_range(names: &[u8], line: &[u8]) -> bool
     ensures { result ≡ extras_in_range (line_words names.now) (line_words line.now) }
 {
     let mut above = names;
-    let mut rest = line;
-    let mut e = text::piece_length(rest, b' ');
-    while e < rest.len() {
+    for w in line.split(|c| *c == b' ') {
         let name = text::word_at(above, 0);
-        if !extra_in_range(name, &rest[..e]) {
+        if !extra_in_range(name, w) {
             return false;
         }
-        let next = next_names(above);
-        above = next;
-        rest = &rest[e + 1..];
-        e = text::piece_length(rest, b' ');
+        above = next_names(above);
     }
-    extra_in_range(text::word_at(above, 0), rest)
+    true
 }
 
 // The same of what the two lines list: `-` lists nothing, and as a name it is of no kind.

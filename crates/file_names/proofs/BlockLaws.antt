@@ -6,12 +6,11 @@ use mathlib.Core.List.{List, [], ◌∷◌, ◌++◌}
 use native.Mathlib.Omega.{arith}
 use native.Mathlib.Numerals.{add-one}
 use lib.Dec.{eqb, ltb}
-use lib.ListN.{length, get_or, take, set}
-use lib.Seq.{length-take-le, take-suc, take-suc-set}
+use lib.ListN.{length, get_or, take, drop, set, drop_of_length-le}
+use lib.Seq.{drop-cons, length-take-le, take-suc, take-suc-set}
 use borrow.Author.Tests.{eqb-true, eqb-false, eq-eqb, ne_eqb, ltb-true}
 use Rattle.text.specs.Text.{bytes, equals, line_words}
 use Rattle.text_decimals.specs.Decimal.{decimal}
-use Rattle.text.proofs.ScanLaws.{first_length, past, cut-more, cut-last}
 use Rattle.text.proofs.TextLaws.{and_left, and_right}
 use Rattle.file_format.specs.Layout.{list}
 use Rattle.file_format.specs.Rows.{is_field, sizes_from, block_sizes, total}
@@ -94,40 +93,24 @@ grow-start (w ∷ ws) = go (is_field 0 0 w)
     go true = sym (grow-from 0 1 ws)
     go false = refl
 
--- a name that adds nothing leaves the sizes as they are
-same_total : (k : ℕ) (ns : List ℕ) (w : List ℕ) → total (added k ns w) ≡ total ns → added k ns w ≡ ns
-unfolding added total
-same_total k [] w e = go (is_field k 0 w) e
-  where
-    go : (b : Bool) → total (cond b (1 ∷ []) []) ≡ 0 → cond {A = List ℕ} b (1 ∷ []) [] ≡ []
-    go true q = absurd (omega arith)
-    go false q = refl
-same_total k (n ∷ []) w e = go (is_field k n w) (is_field (suc k) 0 w) e
-  where
-    go : (a b : Bool) → total (cond a (suc n ∷ []) (n ∷ cond b (1 ∷ []) [])) ≡ n + 0 → cond a (suc n ∷ []) (n ∷ cond b (1 ∷ []) []) ≡ n ∷ []
-    go true b q = absurd (omega arith)
-    go false true q = absurd (omega arith)
-    go false false q = refl
-same_total k (n ∷ m ∷ ns) w e = ap (λ (ms : List ℕ). n ∷ ms) (same_total (suc k) (m ∷ ns) w (omega arith))
+-- the names ws, of which k were read: the next, x, adds nothing, it adds something, or there is none
 
--- the names on a line l, whose first has the length n: it adds nothing, it adds something, or it is the last
+pub grow-stop : (ns : List ℕ) (ws : List (List ℕ)) (k : ℕ) (x : List ℕ) → k < length ws → x ≡ get_or ws k x → total (added 0 ns x) ≡ total ns → grow 0 ns (drop k ws) ≡ ns
+unfolding grow
+grow-stop ns ws k x h is e =
+    let q : total (added 0 ns (get_or ws k x)) ≡ total ns = ap (λ w. total (added 0 ns w)) (sym is) ∙ e in
+    rw (drop-cons ws k x h, eq-eqb (total (added 0 ns (get_or ws k x))) (total ns) q) refl
 
-pub grow-stop : (ns l : List ℕ) (n : ℕ) → n ≡ first_length 32 l → n < length l → total (added 0 ns (take n l)) ≡ total ns → grow 0 ns (line_words l) ≡ ns
-unfolding grow line_words
-grow-stop ns l n q h e = rw (cut-more 32 l n q h, eq-eqb (total (added 0 ns (take n l))) (total ns) e) refl
+pub grow-next : (ns ms : List ℕ) (ws : List (List ℕ)) (k j : ℕ) (x : List ℕ) → j ≡ k + 1 → k < length ws → x ≡ get_or ws k x → ms ≡ added 0 ns x → (total ms ≡ total ns → ⊥)
+    → grow 0 ns (drop k ws) ≡ grow 0 ms (drop j ws)
+unfolding grow
+grow-next ns ms ws k j x next h is a e =
+    let q : added 0 ns (get_or ws k x) ≡ ms = ap (added 0 ns) (sym is) ∙ sym a in
+    rw (next, add-one k, drop-cons ws k x h, q, ne_eqb (total ms) (total ns) e) refl
 
-pub grow-next : (ns ms l : List ℕ) (n : ℕ) → n ≡ first_length 32 l → n < length l → ms ≡ added 0 ns (take n l) → (total ms ≡ total ns → ⊥)
-    → grow 0 ns (line_words l) ≡ grow 0 ms (line_words (past n l))
-unfolding grow line_words
-grow-next ns ms l n q h a e = rw (cut-more 32 l n q h, sym a, ne_eqb (total ms) (total ns) e) refl
-
-pub grow_last : (ns l : List ℕ) (n : ℕ) → n ≡ first_length 32 l → length l ≤ n → grow 0 ns (line_words l) ≡ added 0 ns l
-unfolding grow line_words
-grow_last ns l n q h = rw (cut-last 32 l n q h) (go (eqb (total (added 0 ns l)) (total ns)) refl)
-  where
-    go : (b : Bool) → eqb (total (added 0 ns l)) (total ns) ≡ b → cond b ns (added 0 ns l) ≡ added 0 ns l
-    go true e = sym (same_total 0 ns l (eqb-true (total (added 0 ns l)) (total ns) e))
-    go false e = refl
+pub grow-end : (ns : List ℕ) (ws : List (List ℕ)) (k : ℕ) → length ws ≤ k → grow 0 ns (drop k ws) ≡ ns
+unfolding grow
+grow-end ns ws k h = rw (drop_of_length-le ws h) refl
 
 pub some-names : (l : List ℕ) → equals l (bytes "-") ≡ false → block_sizes (list l) ≡ grow 0 [] (line_words l)
 unfolding list

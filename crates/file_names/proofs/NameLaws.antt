@@ -1,23 +1,19 @@
--- Laws of the names on a line, as the code scans them: word by word for repeated names and for the names of the cells, byte by byte
--- for a primitive's name, and a field's name spelt out. Assumes nothing.
+-- Laws of the names on a line, as the code scans them: word by word for repeated names, in pairs for the names of the cells; of a
+-- primitive's name, and of a field's name spelt out. Assumes nothing.
 use Prim.Native.Nat.{ℕ, zero, suc, ◌+◌, ◌<◌, ◌≤◌, ◌/◌, ◌%◌}
 use mathlib.Core.Path.{◌≡◌, refl, ap, ◌∙◌}
-use mathlib.Core.Bool.{Bool, true, false, ◌&&◌, and-true, and-false}
+use mathlib.Core.Bool.{true, false, ◌&&◌, and-true, and-false}
 use mathlib.Core.List.{List, [], ◌∷◌}
 use native.Mathlib.Omega.{arith}
 use lib.Dec.{ltb}
-use lib.ListN.{length, get_or, take, drop, drop_of_length-le}
-use lib.Seq.{drop-cons, take-nil}
+use lib.ListN.{length, get_or, take, drop}
 use borrow.Author.Tests.{lt-ltb, le-ltb}
-use Rattle.text.specs.Text.{equals, parted_by, line_words, among, distinct, all}
+use Rattle.std.specs.List.{list_all, zip}
+use Rattle.text.specs.Text.{equals, line_words, among, distinct, all}
 use Rattle.text_decimals.specs.Decimal.{digits, decimal}
 use Rattle.text_decimals.proofs.DecimalLaws.{decimal-one}
 use Rattle.text.proofs.ScanLaws.{first_length, past, cut-more, cut-last}
-use Rattle.text.proofs.PieceLaws.{split-some, first-le, first_piece}
 use Rattle.file_format.specs.Rows.{is_capital, in_name, is_name, equal_lists, is_field}
-
-pub first-within : (l : List ℕ) (n : ℕ) → n ≡ first_length 32 l → n ≤ length l
-first-within l n q = rw q (first-le 32 l)
 
 -- ---- whether a word stands twice
 
@@ -56,55 +52,20 @@ unfolding is_name
 name-rest [] p h e = absurd (omega arith)
 name-rest (c ∷ cs) p h e = rw (e, lt-ltb (length cs) 8 (omega arith)) (and-true (all in_name cs))
 
-pub all-fails : (t : ℕ → Bool) (w : List ℕ) (i : ℕ) → i < length w → t (get_or w i 0) ≡ false → all t (drop i w) ≡ false
-unfolding all
-all-fails t w i h e = rw (drop-cons w i 0 h, e) refl
+-- ---- the words ws as the first of ns
 
-pub all-passes : (t : ℕ → Bool) (w : List ℕ) (i : ℕ) → i < length w → t (get_or w i 0) ≡ true → all t (drop i w) ≡ all t (drop (suc i) w)
-unfolding all
-all-passes t w i h e = rw (drop-cons w i 0 h, e) refl
-
-pub all_end : (t : ℕ → Bool) (w : List ℕ) (i : ℕ) → length w ≤ i → all t (drop i w) ≡ true
-unfolding all
-all_end t w i h = rw (drop_of_length-le w h) refl
-
--- ---- the words of l as the first of those of o
-
-abbrev pub leads : List ℕ → List ℕ → Bool
-leads l o = equal_lists (line_words l) (take (length (line_words l)) (line_words o))
-
-none-differs : (ps : List (List ℕ)) → 0 < length ps → equal_lists ps [] ≡ false
+pub leads-short : (ws ns : List (List ℕ)) → length ns < length ws → equal_lists ws (take (length ws) ns) ≡ false
 unfolding equal_lists
-none-differs [] h = absurd (omega arith)
-none-differs (p ∷ ps) h = refl
+leads-short [] ns h = absurd (omega arith)
+leads-short (w ∷ ws) [] h = refl
+leads-short (w ∷ ws) (n ∷ ns) h = ap (λ b. equals w n && b) (leads-short ws ns (omega arith)) ∙ and-false (equals w n)
 
-short : (x o : List ℕ) (xs : List (List ℕ)) → equal_lists xs [] ≡ false → equal_lists (x ∷ xs) (take (suc (length xs)) (o ∷ [])) ≡ false
+-- by pairs
+pub leads-pairs : (ws ns : List (List ℕ)) → length ws ≤ length ns → list_all (λ (p : List ℕ × List ℕ). equals p.0 p.1) (zip ws ns) ≡ equal_lists ws (take (length ws) ns)
 unfolding equal_lists
-short x o xs e =
-    let t : take (length xs) [] ≡ [] = take-nil (length xs) in
-    ap (λ (ys : List (List ℕ)). equals x o && equal_lists xs ys) t ∙ ap (λ (b : Bool). equals x o && b) e ∙ and-false (equals x o)
-
-pub leads-short : (l o : List ℕ) (n m : ℕ) → n ≡ first_length 32 l → n < length l → m ≡ first_length 32 o → length o ≤ m → leads l o ≡ false
-unfolding line_words equal_lists
-leads-short l o n m q h p k = rw (cut-more 32 l n q h, cut-last 32 o m p k) (short (take n l) o (parted_by 32 (past n l)) (none-differs (parted_by 32 (past n l)) (split-some 32 (past n l))))
-
-pub leads-differ : (l o : List ℕ) (n m : ℕ) → n ≡ first_length 32 l → n < length l → m ≡ first_length 32 o → m < length o
-    → equals (take n l) (take m o) ≡ false → leads l o ≡ false
-unfolding line_words equal_lists
-leads-differ l o n m q h p k e = rw (cut-more 32 l n q h, cut-more 32 o m p k, e) refl
-
-pub leads-agree : (l o : List ℕ) (n m : ℕ) → n ≡ first_length 32 l → n < length l → m ≡ first_length 32 o → m < length o
-    → equals (take n l) (take m o) ≡ true → leads l o ≡ leads (past n l) (past m o)
-unfolding line_words equal_lists
-leads-agree l o n m q h p k e = rw (cut-more 32 l n q h, cut-more 32 o m p k, e) refl
-
-pub leads-last : (l o : List ℕ) (n m : ℕ) → n ≡ first_length 32 l → length l ≤ n → m ≡ first_length 32 o → leads l o ≡ equals l (take m o)
-unfolding line_words equal_lists
-leads-last l o n m q h p = rw (cut-last 32 l n q h) (go (parted_by 32 o) (split-some 32 o) (first_piece 32 o m p))
-  where
-    go : (ps : List (List ℕ)) → 0 < length ps → get_or ps 0 [] ≡ take m o → equal_lists (l ∷ []) (take 1 ps) ≡ equals l (take m o)
-    go [] k e = absurd (omega arith)
-    go (w ∷ ps) k e = rw e (and-true (equals l (take m o)))
+leads-pairs [] ns h = refl
+leads-pairs (w ∷ ws) [] h = absurd (omega arith)
+leads-pairs (w ∷ ws) (n ∷ ns) h = ap (λ b. equals w n && b) (leads-pairs ws ns (omega arith))
 
 -- ---- a field's name
 

@@ -14,6 +14,7 @@ pub fn distinct(line: &[u8]) -> bool
 {
     let mut rest = line;
     let mut e = text::piece_length(rest, b' ');
+    // A while: each word is sought in the rest of the line after it, which `split` does not hand out.
     while e < rest.len() {
         let w = &rest[..e];
         rest = &rest[e + 1..];
@@ -63,37 +64,20 @@ pub fn is_name(w: &[u8]) -> bool
     if !is_capital(w[0]) {
         return false;
     }
-    let mut i = 1;
-    while i < w.len() {
-        if !in_name(w[i]) {
-            return false;
-        }
-        i += 1;
-    }
-    true
+    w[1..].iter().all(|c| in_name(*c))
 }
 
 // Whether the words of line are the first of the words of names.
 fn begins(line: &[u8], names: &[u8]) -> bool
     ensures { result ≡ equal_lists (line_words line.now) (take (length (line_words line.now)) (line_words names.now)) }
 {
-    let mut rest = line;
-    let mut others = names;
-    let mut e = text::piece_length(rest, b' ');
-    let mut f = text::piece_length(others, b' ');
-    while e < rest.len() {
-        if others.len() <= f {
-            return false;
-        }
-        if !text::same(&rest[..e], &others[..f]) {
-            return false;
-        }
-        rest = &rest[e + 1..];
-        others = &others[f + 1..];
-        e = text::piece_length(rest, b' ');
-        f = text::piece_length(others, b' ');
+    if text::count_words(names) < text::count_words(line) {
+        return false;
     }
-    text::same(rest, &others[..f])
+    let others = names.split(|c| *c == b' ');
+    line.split(|c| *c == b' ')
+        .zip(others)
+        .all(|(word, other)| text::same(word, other))
 }
 
 // The names of the cells, parted by single spaces.
@@ -176,16 +160,12 @@ pub fn blocks_named(line: &[u8]) -> Blocks
     if text::same(line, b"-") {
         return blocks;
     }
-    let mut rest = line;
-    let mut e = text::piece_length(rest, b' ');
-    while e < rest.len() {
-        let next = add_name(blocks, &rest[..e]);
+    for name in line.split(|c| *c == b' ') {
+        let next = add_name(blocks, name);
         if next.total == blocks.total {
             return blocks;
         }
         blocks = next;
-        rest = &rest[e + 1..];
-        e = text::piece_length(rest, b' ');
     }
-    add_name(blocks, rest)
+    blocks
 }

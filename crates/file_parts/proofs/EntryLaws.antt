@@ -1,4 +1,5 @@
 -- Laws of a code line as the five words that a program has for it. Assumes nothing.
+use Rattle.std.specs.Prelude.{Option}
 use Prim.Native.Nat.{ℕ, ◌+◌, ◌*◌, ◌%◌, ◌<◌, ◌≤◌}
 use mathlib.Core.Path.{◌≡◌, refl, sym, ap, ap₂, subst, ◌∙◌}
 use mathlib.Core.Bool.{Bool, true, false, cond}
@@ -11,7 +12,6 @@ use lib.ListN.{length, get_or, take, set, length-map, length-set}
 use lib.Seq.{take-suc, get_or-set_same, get_or-set_other}
 use borrow.Author.Tests.{le-leb, lt-leb, ltb-true, ltb-false}
 use Rattle.text.specs.Text.{place_among, index_of, find, Line, no_line}
-use Rattle.text.specs.declared.Place.{Place}
 use Rattle.numbers.specs.declared.Comparison.TheVariants.{Equal, Unequal, Less, AtMost, Greater, AtLeast}
 use Rattle.numbers.specs.declared.Range.{Range}
 use Rattle.numbers.specs.Numbers.{numbers, signed}
@@ -34,7 +34,7 @@ use Rattle.file_values.specs.HeldValues.{NaturalRange}
 use Rattle.file_parts.specs.HeldParts.{PriceRange, Coded, put_line}
 
 -- where a word is found, as an index
-pub found : (ws : List (List ℕ)) (w v : List ℕ) (p : Place) {k : ℕ} → k ≡ index_of p → p ≡ place_among w ws → w ≡ v → k ≡ find v ws
+pub found : (ws : List (List ℕ)) (w v : List ℕ) (p : Option ℕ) {k : ℕ} → k ≡ index_of p → p ≡ place_among w ws → w ≡ v → k ≡ find v ws
 unfolding find
 found ws w v p i e q = i ∙ ap index_of e ∙ ap (λ u. index_of (place_among u ws)) q
 

@@ -1,4 +1,5 @@
 -- What is kept of the kinds that were met. Assumes nothing.
+use Rattle.std.specs.Prelude.{None, Option, Some}
 use Prim.Native.Nat.{ℕ, ◌+◌, ◌*◌, ◌<◌, ◌≤◌}
 use mathlib.Core.Path.{◌≡◌, refl, sym, ap, ap₂, subst, ◌∙◌}
 use mathlib.Core.Bool.{Bool, true, false, cond}
@@ -10,8 +11,6 @@ use lib.Dec.{eqb, ltb}
 use lib.ListN.{length, get_or, length-set, replicate, get_or-replicate}
 use borrow.Author.Tests.{eqb-true, eqb-false, ltb-true, ltb-false}
 use Rattle.text.specs.Text.{place_among, index_of, find}
-use Rattle.text.specs.declared.Place.{Place}
-use Rattle.text.specs.declared.Place.TheVariants.{At, Missing}
 use Rattle.numbers.specs.declared.Range.{Range}
 use Rattle.instructions.specs.Kinds.{kind_names, kind_at}
 use Rattle.instructions.proofs.ColumnLaws.{kind-below}
@@ -24,27 +23,27 @@ use Rattle.file_parts.proofs.EntryLaws.{found, natural-small, put-kept, word-0, 
 -- ---- slots
 
 -- the number of a slot
-abbrev slot_number : Place → ℕ
-slot_number (At k) = k
-slot_number Missing = 61
+abbrev slot_number : Option ℕ → ℕ
+slot_number (Some k) = k
+slot_number None = 61
 
-slot_is : (p : Place) → slot_of p ≡ slot_number p * 5
-slot_is (At k) = refl
-slot_is Missing = refl
+slot_is : (p : Option ℕ) → slot_of p ≡ slot_number p * 5
+slot_is (Some k) = refl
+slot_is None = refl
 
-pub places-low : (op : List ℕ) (p : Place) → p ≡ place_among op kind_names → (k : ℕ) → p ≡ At k → k < 61
+pub places-low : (op : List ℕ) (p : Option ℕ) → p ≡ place_among op kind_names → (k : ℕ) → p ≡ Some k → k < 61
 places-low op p q k e = kind-below op (sym q ∙ e)
 
-slot-few : (p : Place) → ((k : ℕ) → p ≡ At k → k < 61) → slot_number p ≤ 61
-slot-few (At k) h = let l = h k refl in omega arith
-slot-few Missing h = omega arith
+slot-few : (p : Option ℕ) → ((k : ℕ) → p ≡ Some k → k < 61) → slot_number p ≤ 61
+slot-few (Some k) h = let l = h k refl in omega arith
+slot-few None h = omega arith
 
-pub slot-low : (op : List ℕ) (p : Place) → p ≡ place_among op kind_names → {s : ℕ} → s ≡ slot_of p → s ≤ 305
+pub slot-low : (op : List ℕ) (p : Option ℕ) → p ≡ place_among op kind_names → {s : ℕ} → s ≡ slot_of p → s ≤ 305
 slot-low op p q e = let a = slot-few p (places-low op p q) in let b = slot_is p in omega arith
 
-slot-named : (op : List ℕ) (p : Place) → p ≡ place_among op kind_names → (j : ℕ) → j < 61 → j ≡ slot_number p → get_or kind_names j [] ≡ op
-slot-named op (At k) q j h e = ap (λ i. get_or kind_names i []) e ∙ word-found op (sym q)
-slot-named op Missing q j h e = absurd (omega arith)
+slot-named : (op : List ℕ) (p : Option ℕ) → p ≡ place_among op kind_names → (j : ℕ) → j < 61 → j ≡ slot_number p → get_or kind_names j [] ≡ op
+slot-named op (Some k) q j h e = ap (λ i. get_or kind_names i []) e ∙ word-found op (sym q)
+slot-named op None q j h e = absurd (omega arith)
 
 -- another slot lies elsewhere
 apart : (j m i d : ℕ) → (j ≡ m → ⊥) → d < 5 → i ≡ j * 5 + d → m * 5 ≤ i → m * 5 + 5 ≤ i
@@ -60,16 +59,16 @@ module _ (ks : PriceList) (xs : List (List ℕ)) where
   pub none_kept : KindsKept ks xs (replicate 310 0)
   none_kept = record { size = refl; other = refl; found = λ k h e. let z : ◌≡◌ {A = ℕ} (get_or (replicate 310 0) (k * 5 + 1) 0) 0 = get_or-replicate 310 (k * 5 + 1) 0 0 (omega arith) in absurd (omega arith) }
 
-  module _ (ws : List ℕ) (s : KindsKept ks xs ws) (op : List ℕ) (p : Place) (q : p ≡ place_among op kind_names) {k : ℕ} (at : k ≡ slot_of p) where
+  module _ (ws : List ℕ) (s : KindsKept ks xs ws) (op : List ℕ) (p : Option ℕ) (q : p ≡ place_among op kind_names) {k : ℕ} (at : k ≡ slot_of p) where
     -- what was kept is there
     pub kept-price : get_or ws (k + 1) 0 ≡ 1 → PriceAt ks xs op ws k
     kept-price e = go p q at
       where
-        go : (o : Place) → o ≡ place_among op kind_names → k ≡ slot_of o → PriceAt ks xs op ws k
-        go (At j) r z =
+        go : (o : Option ℕ) → o ≡ place_among op kind_names → k ≡ slot_of o → PriceAt ks xs op ws k
+        go (Some j) r z =
             subst (λ i. PriceAt ks xs op ws i) (sym z)
             (subst (λ o. PriceAt ks xs o ws (j * 5)) (word-found op (sym r)) (s.found j (kind-below op (sym r)) (ap (λ i. get_or ws (i + 1) 0) (sym z) ∙ e)))
-        go Missing r z = let y : get_or ws 306 0 ≡ 1 = ap (λ i. get_or ws (i + 1) 0) (sym z) ∙ e in absurd (omega (arith, s.other))
+        go None r z = let y : get_or ws 306 0 ≡ 1 = ap (λ i. get_or ws (i + 1) 0) (sym z) ∙ e in absurd (omega (arith, s.other))
 
     -- and what is found is kept
     module _ (b f c w x : ℕ) (flag : f ≡ cond (ltb k 305) 1 0) (price : KindPrice ks xs op b c w x) where
@@ -130,7 +129,7 @@ module _ (ks : PriceList) (xs : List (List ℕ)) where
       kept_put = record { size = simp length-set s.size; other = other-kept; found = found-kept }
 
 -- what the search finds of a kind
-pub price-found : (ks : PriceList) (xs : List (List ℕ)) (op : List ℕ) (p : Place) → p ≡ place_among op kind_names → {k i b c w x : ℕ} {r t u : Range} → k ≡ index_of p → Coded (kind_at k) b → i ≡ find op ks.names
+pub price-found : (ks : PriceList) (xs : List (List ℕ)) (op : List ℕ) (p : Option ℕ) → p ≡ place_among op kind_names → {k i b c w x : ℕ} {r t u : Range} → k ≡ index_of p → Coded (kind_at k) b → i ≡ find op ks.names
     → r ≡ cycle_counts → c ≡ natural_at r ks.cycles i → t ≡ word_counts → w ≡ natural_at t ks.words i → u ≡ extra_counts → x ≡ natural_at u xs i → KindPrice ks xs op b c w x
 price-found ks xs op p q {b = b} k-is b-is i-is r-is c-is t-is w-is u-is x-is = record {
   coded = subst (λ k. Coded (kind_at k) b) (found kind_names op op p k-is q refl) b-is;

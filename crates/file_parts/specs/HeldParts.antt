@@ -1,11 +1,10 @@
 -- What the code's prices and codes stand for. The parts of a routine are those of file_format/specs/Routine.
-use Rattle.std.specs.Prelude.{◌+◌, ◌*◌, ◌%◌, ◌≤◌, ◌<◌, ◌≡◌}
+use Rattle.std.specs.Prelude.{◌+◌, ◌*◌, ◌%◌, ◌≤◌, ◌<◌, ◌≡◌, None, Option, Some}
 use Rattle.refusals.specs.Library.{ℕ, zero, suc, leb, length, get_or, set, List, []}
-use Rattle.file_format.specs.Terms.{find, Place}
+use Rattle.file_format.specs.Terms.{find}
 use Rattle.text.specs.Text.{Line}
 use Rattle.numbers.specs.declared.Range.{Range}
 use Rattle.numbers.specs.Numbers.{naturals}
-use Rattle.text.specs.declared.Place.TheVariants.{At, Missing}
 use Rattle.instructions.specs.Kinds.{Kind, calls, kind_names, kind_at}
 use Rattle.instructions.specs.HeldColumns.{operation_code}
 use Rattle.file_format.specs.Layout.{up_to_answer, lines_of_code, list}
@@ -29,9 +28,9 @@ pub record Coded (k : Kind) (b : ℕ) : Type 0 where
   pub calls : leb 64 b ≡ calls k.argument
 
 -- where what is kept of the kind at a place begins: five words for each of 61 kinds, and five more for a name that no kind has
-abbrev pub slot_of : Place → ℕ
-slot_of (At k) = k * 5
-slot_of Missing = 305
+abbrev pub slot_of : Option ℕ → ℕ
+slot_of (Some k) = k * 5
+slot_of None = 305
 
 -- what is kept of a kind: the first word b of its lines, and the cycles c, the words w and the extra x that stand under its name op
 pub record KindPrice (ks : PriceList) (xs : List (List ℕ)) (op : List ℕ) (b c w x : ℕ) : Type 0 where

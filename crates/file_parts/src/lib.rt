@@ -1,9 +1,8 @@
 // The parts of the routine that a text holds, as arrays. The meaning is in specs/ here and of `file_format`.
 #![tactic(auto)]
 
-ghost use Rattle.std.specs.Prelude.{◌≡◌, cond, List, [], map, ℕ, ◌+◌, ◌*◌, ◌%◌, ◌≤◌, ◌<◌, ltb, pos, length, get_or, take, drop};
+ghost use Rattle.std.specs.Prelude.{◌≡◌, cond, List, [], map, ℕ, ◌+◌, ◌*◌, ◌%◌, ◌≤◌, ◌<◌, ltb, pos, length, get_or, take, drop, Some};
 ghost use Rattle.text.specs.Text.{lines, no_line, index_of, find};
-ghost use Rattle.text.specs.declared.Place.TheVariants.{At};
 ghost use Rattle.numbers.specs.Numbers.{IsNumber, numbers, residue};
 ghost use Rattle.cells.specs.Cells.{exactly};
 ghost use Rattle.instructions.specs.Kinds.{operand, kind_at};
@@ -27,7 +26,6 @@ use file_layout::line_in;
 use instructions::Argument;
 use machine_state::State;
 use numbers::Range;
-use text::Place;
 
 // ---- the words of a line
 
@@ -73,6 +71,7 @@ pub fn answers_of(text: &[u8]) -> Answers
     let mut values = [0i32; 64];
     let mut rest = text;
     let mut n = 0;
+    // A while: the lines of a text are met by cutting off the first, and how many there are is known only at its end.
     while 0 < rest.len() {
         let line = text::first_line(rest);
         let v = number_of(numbers::number_range(), line);
@@ -101,12 +100,10 @@ pub fn start_of(values: &[u8], first: usize) -> State
     let count = file_layout::count_listed(values);
     let n = if count == 0 { 0 } else { count - 1 };
     let free = 64 - n;
-    let mut i = 0;
-    while i < n {
+    for i in 0..n {
         let cell = cell_at(values, i + 1);
         let j = free + i;
         stack[j] = cell;
-        i += 1;
     }
     State {
         at: first,
@@ -160,13 +157,13 @@ struct Entry {
 }
 
 // Where what is kept of the kind at a place begins: five words for each kind, and five more for a name that no kind has.
-fn slot_of(kind: Place) -> usize
-    requires { (k : ℕ) → kind ≡ At k → k < 61 }
+fn slot_of(kind: Option<usize>) -> usize
+    requires { (k : ℕ) → kind ≡ Some k → k < 61 }
     ensures { result ≡ slot_of kind }
 {
     match kind {
-        Place::At(k) => k * 5,
-        Place::Missing => 305,
+        Some(k) => k * 5,
+        None => 305,
     }
 }
 
@@ -354,12 +351,13 @@ pub fn put_lines<'a>(
     let mut rest = body;
     let mut line = text::first_line(rest);
     let mut n = 0;
+    // A while: the lines of a text are met by cutting off the first, and the first that is no code ends them.
     while is_code(rest, n, line) {
         let cut = file_code::cut_code(line, &keyed, &starts, &table);
         let slot = find_price(&mut kept, kinds, kind_cycles, kind_words, extras, line, cut);
         let kind = cut.kind;
         let k = text::index_of(kind);
-        let takes = instructions::argument_in(&codes, &lows, &highs, Place::At(k));
+        let takes = instructions::argument_in(&codes, &lows, &highs, Some(k));
         let entry = entry_of(&kept, slot, takes, primitives, cycles, words, line, cut);
         put_entry(code, n, entry);
         let next = text::after_line(rest, line.len());
@@ -379,10 +377,8 @@ pub fn put_head(code: &mut [u32; 5131], first: usize, sizes: [u8; 8], present: u
 {
     code[0] = first as u32;
     code[2] = present as u32;
-    let mut k = 0;
-    while k < 8 {
+    for k in 0..8 {
         code[k + 3] = sizes[k] as u32;
-        k += 1;
     }
 }
 
@@ -395,12 +391,10 @@ fn fill(values: &[u8], from: usize, fields: [Cell; 128], start: usize, size: usi
     ensures filled { take size (drop start result) ≡ take size (drop from (cells_of (list values.now))) }
 {
     let mut filled = fields;
-    let mut i = 0;
-    while i < size {
+    for i in 0..size {
         let cell = cell_at(values, from + i);
         let j = start + i;
         filled[j] = cell;
-        i += 1;
     }
     filled
 }
@@ -413,13 +407,11 @@ pub fn fields_of(values: &[u8], sizes: [u8; 8], count: usize) -> [Cell; 128]
     let zero = cells::exactly(0);
     let mut fields = [zero; 128];
     let mut from = 0;
-    let mut k = 0;
-    while k < count {
+    for k in 0..count {
         let size = sizes[k] as usize;
         let filled = fill(values, from, fields, k * 16, size);
         fields = filled;
         from += size;
-        k += 1;
     }
     fields
 }

@@ -1,26 +1,24 @@
 -- What the code holds of a number or of a cell word passes the tests that the number or the cell word passes. Assumes nothing.
-use Prim.Native.Nat.{ℕ, zero, suc, ◌+◌, ◌-◌, ◌<◌, ◌≤◌, zero-le}
+use Rattle.std.specs.Prelude.{None, Option, Some}
+use Prim.Native.Nat.{ℕ, zero, suc, ◌+◌, ◌-◌, ◌<◌, ◌≤◌}
 use mathlib.Core.Path.{◌≡◌, refl, sym, ap, ap₂, subst, ◌∙◌}
 use mathlib.Core.Bool.{Bool, true, false, cond, ◌&&◌, false≢true}
 use mathlib.Core.List.{List, [], ◌∷◌}
 use native.Mathlib.Omega.{arith}
-use lib.Dec.{T, eqb, ltb, lit<}
-use lib.IntN.{ℤ, pos, negsuc, neg_ℤ, nat_abs, ◌-ℤ◌, +ℤ_idl}
+use lib.Dec.{T, eqb, lit<}
+use lib.IntN.{ℤ, pos, negsuc, nat_abs}
 use lib.ListN.{length, get_or, take, drop, length-drop}
 use lib.Seq.{take_all}
-use lib.Signed.{mag, non_neg, le_z, lt_z}
+use lib.Signed.{mag, non_neg, le_z}
 use mir.Syntax.{w32}
 use mir.Val.{SFits}
-use borrow.Author.Tests.{leb-true, ltb-true, le-ltb, eq-eqb, ne_eqb}
+use borrow.Author.Tests.{leb-true, eq-eqb, ne_eqb}
 use types.Run.{OneOf, miss}
 use denote.Enum.Declared.{tag_of}
 use Rattle.file_format.specs.contracts.CellWord.{the_type}
-use Rattle.text.proofs.TextLaws.{ltb-suc}
 use Rattle.text.specs.Text.{equals, bytes, parted_by, line_words, Line, no_line}
 use Rattle.text_decimals.specs.Decimal.{numeral}
 use Rattle.text_decimals.specs.HeldMagnitude.{most, clamp, clamped}
-use Rattle.text_decimals.specs.declared.Numeral.{Numeral}
-use Rattle.text_decimals.specs.declared.Numeral.TheVariants.{Misspelt, Number}
 use Rattle.text.proofs.PieceLaws.{first-le}
 use Rattle.text_decimals.proofs.ClampLaws.{clamp-le, le-clamp, clamp-small, clamp-nat_abs-lt}
 use Rattle.numbers.specs.declared.Range.{Range}
@@ -36,15 +34,15 @@ use Rattle.file_values.specs.HeldValues.{Near, NaturalRange, clamped_cell}
 
 -- ---- numbers
 
-pub numeral-clamped : (n : Numeral) → is_numeral (clamped n) ≡ is_numeral n
+pub numeral-clamped : (n : Option ℤ) → is_numeral (clamped n) ≡ is_numeral n
 unfolding clamped is_numeral
-numeral-clamped Misspelt = refl
-numeral-clamped (Number z) = refl
+numeral-clamped None = refl
+numeral-clamped (Some z) = refl
 
-value-clamped : (n : Numeral) → value_of (clamped n) ≡ clamp (value_of n)
+value-clamped : (n : Option ℤ) → value_of (clamped n) ≡ clamp (value_of n)
 unfolding clamped value_of clamp
-value-clamped Misspelt = refl
-value-clamped (Number z) = refl
+value-clamped None = refl
+value-clamped (Some z) = refl
 
 pub within-clamp : (r : Range) (z : ℤ) → Near r → within r (clamp z) ≡ within r z
 within-clamp r z h = ap₂ (λ a b. cond a b false) (le-clamp r.low z h.low) (clamp-le z r.high h.high)
@@ -79,21 +77,21 @@ inside-numbers-fits z = inside-fits numbers z (record { fits = lit< tt }) (recor
 
 -- ---- cells
 
-pub known-clamped : (n : Numeral) → known_of (clamped n) ≡ clamped_cell (known_of n)
+pub known-clamped : (n : Option ℤ) → known_of (clamped n) ≡ clamped_cell (known_of n)
 unfolding clamped known_of clamped_cell
-known-clamped Misspelt = refl
-known-clamped (Number z) = refl
+known-clamped None = refl
+known-clamped (Some z) = refl
 
-pub block-clamped : (n : Numeral) → block_of (clamped n) ≡ clamped_cell (block_of n)
+pub block-clamped : (n : Option ℤ) → block_of (clamped n) ≡ clamped_cell (block_of n)
 unfolding clamped block_of clamped_cell
-block-clamped Misspelt = refl
-block-clamped (Number z) = refl
+block-clamped None = refl
+block-clamped (Some z) = refl
 
-pub span-clamped : (m n : Numeral) → span_of (clamped m) (clamped n) ≡ clamped_cell (span_of m n)
+pub span-clamped : (m n : Option ℤ) → span_of (clamped m) (clamped n) ≡ clamped_cell (span_of m n)
 unfolding clamped span_of clamped_cell
-span-clamped Misspelt n = refl
-span-clamped (Number z) Misspelt = refl
-span-clamped (Number z) (Number y) = refl
+span-clamped None n = refl
+span-clamped (Some z) None = refl
+span-clamped (Some z) (Some y) = refl
 
 pub cell-clamped : (c : CellWord) → is_cell (clamped_cell c) ≡ is_cell c
 unfolding is_cell clamped_cell
@@ -285,32 +283,12 @@ not_wide (Span lo hi) o = absurd (miss (0 ∷ 2 ∷ 3 ∷ []) 4 tt o)
 pub tested : {B X : Type 0} (f : B → X) (held : B → B) (keeps : (b : B) → f (held b) ≡ f b) (b : B) {r d : B} {x : X} → r ≡ held b → r ≡ d → x ≡ f d → x ≡ f b
 tested f held keeps b p q e = e ∙ ap f (sym q ∙ p) ∙ keeps b
 
-pub held-value : (n : Numeral) {r d : Numeral} {x : ℤ} → r ≡ clamped n → r ≡ d → x ≡ value_of d → x ≡ clamp (value_of n)
+pub held-value : (n : Option ℤ) {r d : Option ℤ} {x : ℤ} → r ≡ clamped n → r ≡ d → x ≡ value_of d → x ≡ clamp (value_of n)
 held-value n p q e = e ∙ ap value_of (sym q ∙ p) ∙ value-clamped n
-
--- ---- how far a number is from 0, by comparisons with n and with -n
-
-pub nearer-above : (k : ℤ) (n : ℕ) → lt_z k (pos 0) ≡ false → lt_z k (pos n) ≡ ltb (nat_abs k) n
-nearer-above (pos a) n e = refl
-nearer-above (negsuc a) n e = absurd (let z : ◌≡◌ {A = ℕ} 0 1 = cc in omega arith)
-
-below-zero : (a : ℕ) {X : Type 0} → ltb a 0 ≡ true → X
-below-zero a e = absurd (let h = ltb-true a 0 e in omega arith)
-
-nearer-neg : (a n : ℕ) → lt_z (neg_ℤ (pos n)) (negsuc a) ≡ ltb (suc a) n
-nearer-neg a zero = sym (le-ltb (suc a) 0 zero-le)
-nearer-neg a (suc n) = ltb-suc a n
-
-pub nearer-below : (k : ℤ) (n : ℕ) → lt_z k (pos 0) ≡ true → lt_z (pos 0 -ℤ pos n) k ≡ ltb (nat_abs k) n
-nearer-below (pos a) n e = below-zero a e
-nearer-below (negsuc a) n e = ap (λ z. lt_z z (negsuc a)) (+ℤ_idl (neg_ℤ (pos n))) ∙ nearer-neg a n
 
 -- ---- natural numbers
 
 module _ (r : Range) (n : NaturalRange r) where
-  pub natural-near : Near r
-  natural-near = rw n.is (record { low = omega (arith, n.small.0); high = omega (arith, n.small.1) })
-
   pub natural-held : (z : ℤ) → Natural n.greatest (inside r z)
   natural-held z = rw n.is (natural-inside n.least n.greatest z)
 

@@ -15,17 +15,16 @@ ghost use Rattle.file_values.specs.HeldValues.{Near, NaturalRange, clamped_cell}
 use cells::Cell;
 use file_format::CellWord;
 use numbers::Range;
-use text_decimals::Numeral;
 
 // ---- numbers
 
 // Whether a number is spelt, by what was read of a word.
-pub fn is_spelt(n: Numeral) -> bool
+pub fn is_spelt(n: Option<i64>) -> bool
     ensures { (w : List ℕ) → n ≡ clamped (numeral w) → result ≡ is_numeral (numeral w) }
 {
     match n {
-        Numeral::Misspelt => false,
-        Numeral::Number(_) => true,
+        None => false,
+        Some(_) => true,
     }
 }
 
@@ -37,17 +36,17 @@ pub fn is_numeral(w: &[u8]) -> bool
 }
 
 // What is held of the number that was read; 0 where none is spelt.
-fn value_read(n: Numeral) -> i64
+fn value_read(n: Option<i64>) -> i64
     ensures { (w : List ℕ) → n ≡ clamped (numeral w) → result ≡ clamp (value w) }
 {
     match n {
-        Numeral::Misspelt => 0,
-        Numeral::Number(z) => z,
+        None => 0,
+        Some(z) => z,
     }
 }
 
 // Whether the number that was read is within a range.
-pub fn is_read_within(range: Range, n: Numeral) -> bool
+pub fn is_read_within(range: Range, n: Option<i64>) -> bool
     requires { Near range }
     ensures { (w : List ℕ) → n ≡ clamped (numeral w) → result ≡ within range (value w) }
 {
@@ -63,7 +62,7 @@ pub fn is_within(range: Range, w: &[u8]) -> bool
 }
 
 // Whether the number that was read is above another.
-pub fn is_read_above(low: i64, n: Numeral) -> bool
+pub fn is_read_above(low: i64, n: Option<i64>) -> bool
     requires { mag low < most }
     ensures { (w : List ℕ) → n ≡ clamped (numeral w) → result ≡ lt_z low (value w) }
 {
@@ -117,32 +116,32 @@ pub fn first_address(body: &[u8]) -> usize
 
 // ---- cells
 
-fn known_word(n: Numeral) -> CellWord
+fn known_word(n: Option<i64>) -> CellWord
     ensures { result ≡ known_of n }
 {
     match n {
-        Numeral::Misspelt => CellWord::Wrong,
-        Numeral::Number(z) => CellWord::Known(z),
+        None => CellWord::Wrong,
+        Some(z) => CellWord::Known(z),
     }
 }
 
-fn block_word(n: Numeral) -> CellWord
+fn block_word(n: Option<i64>) -> CellWord
     ensures { result ≡ block_of n }
 {
     match n {
-        Numeral::Misspelt => CellWord::Wrong,
-        Numeral::Number(z) => CellWord::Block(z),
+        None => CellWord::Wrong,
+        Some(z) => CellWord::Block(z),
     }
 }
 
-fn span_word(m: Numeral, n: Numeral) -> CellWord
+fn span_word(m: Option<i64>, n: Option<i64>) -> CellWord
     ensures { result ≡ span_of m n }
 {
     match m {
-        Numeral::Misspelt => CellWord::Wrong,
-        Numeral::Number(lo) => match n {
-            Numeral::Misspelt => CellWord::Wrong,
-            Numeral::Number(hi) => CellWord::Span(lo, hi),
+        None => CellWord::Wrong,
+        Some(lo) => match n {
+            None => CellWord::Wrong,
+            Some(hi) => CellWord::Span(lo, hi),
         },
     }
 }

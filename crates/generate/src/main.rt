@@ -6,8 +6,6 @@ ghost use Rattle.io.specs.Counts.{IsPrefixLen};
 ghost use Rattle.console.specs.Line.{printed};
 ghost use Rattle.generate_entry.specs.Answers.{generate_answer};
 
-use console::Given;
-
 // Puts what is printed for a seed at the start of out, and answers how many bytes it is.
 fn answer(seed: u32, out: &mut [u8]) -> usize
     requires { 128 ≤ length out.old }
@@ -23,7 +21,7 @@ fn main(rt: HostRuntime) {
     let mut digits = [0u8; 10];
     let n = console::argument(&rt, 1, &mut digits);
     let seed = console::number_of(&digits[..n]);
-    let Given::Number(s) = seed else {
+    let Some(s) = seed else {
         console::say(&rt, b"generate SEED: SEED is no number of 32 bits\n");
         return;
     };

@@ -36,16 +36,6 @@ pub record Rowing (c : Column) (n : ℕ) (follows : Bool) (s : ℕ) (former : Li
   pub long : length out ≡ length former
   pub whole : made ++ row_from c (n - i) i follows t ≡ row_from c n 0 follows s
 
-pub rowing-starts : (c : Column) (n : ℕ) (follows : Bool) (s : ℕ) (former : List ℕ) (at : ℕ) → at ≤ length former → Rowing c n follows s former at former at s 0
-rowing-starts c n follows s former at h = record {
-  few = omega arith;
-  made = [];
-  wrote = wrote_none former at h;
-  short = omega arith;
-  long = refl;
-  whole = ap (λ m. row_from c m 0 follows s) (omega arith);
-}
-
 break-one : (b : Bool) → length (break b) ≡ 1
 break-one true = refl
 break-one false = refl

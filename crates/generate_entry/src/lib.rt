@@ -14,7 +14,6 @@ ghost use Rattle.generate_file.specs.File.{count, target, argument, line_of, cod
 ghost use Rattle.generate_file.specs.Held.{sound};
 ghost use Rattle.generate_entry.specs.Answers.{generate_answer};
 
-use answers::Answer;
 use generate_file::Column;
 use instructions::Argument;
 use numbers::Range;
@@ -34,10 +33,8 @@ fn after(i: usize, seed: u32) -> u32
     ensures { result ≡ after i seed }
 {
     let mut s = seed;
-    let mut k = 0;
-    while k < i {
+    for _ in 0..i {
         s = next(s);
-        k += 1;
     }
     s
 }
@@ -171,13 +168,11 @@ fn put_row(out: &mut [u8], at: usize, column: Column, count: usize, follows: boo
 {
     let mut e = at;
     let mut t = s;
-    let mut i = 0;
-    while i < count {
+    for i in 0..count {
         let d = next(t);
         let f = put_word(out, e, column, i, d);
         e = put_break(out, f, count - i - 1, follows);
         t = d;
-        i += 1;
     }
     e
 }
@@ -247,15 +242,13 @@ fn put_code(out: &mut [u8], at: usize, seed: u32, n: usize) -> usize
     let mut e = at;
     let mut t = next(seed);
     let mut u = after(n + 1, seed);
-    let mut k = 0;
-    while k <= n {
+    for k in 0..=n {
         let c = next(t);
         let d = next(u);
         let kind = kind_of(n, k, c);
         e = put_line(out, e, n, k, kind, d);
         t = c;
         u = d;
-        k += 1;
     }
     e
 }
@@ -405,16 +398,16 @@ fn put_file(out: &mut [u8], seed: u32) -> usize
 }
 
 // The routine file of a seed in the lent memory, or a refusal.
-pub fn generate(seed: u32, out: &mut [u8]) -> Answer
+pub fn generate(seed: u32, out: &mut [u8]) -> Result<usize, Refusal>
     ensures value { result ≡ answer_of (generate_answer seed (length out.old)) }
     ensures out_after { out.new ≡ memory (generate_answer seed (length out.old)) out.old }
 {
     if out.len() < 32768 {
-        return Answer::Refused(Refusal::ReportMemory);
+        return Err(Refusal::ReportMemory);
     }
     if seed == 0 {
-        return Answer::Refused(Refusal::OutOfRange(0));
+        return Err(Refusal::OutOfRange(0));
     }
     let n = put_file(out, seed);
-    Answer::Reported(n)
+    Ok(n)
 }

@@ -1,4 +1,5 @@
 -- Laws of the lines of code: a line is read as its address, its kind and its argument, and no row refuses it. Assumes nothing.
+use Rattle.std.specs.Prelude.{Some}
 use mathlib.Core.Path.{◌≡◌, refl, sym, ap, subst, ◌∙◌}
 use mathlib.Core.Bool.{Bool, true, false, cond, not}
 use mathlib.Core.List.{List, [], ◌∷◌, ◌++◌, append_assoc}
@@ -10,7 +11,6 @@ use lib.IntN.{pos, ◌+ℤ◌}
 use lib.ListN.{length, length-append, get_or}
 use borrow.Author.Tests.{le-leb, lt-ltb, ltb-true, eq-eqb}
 use Rattle.text.specs.Text.{bytes, is_empty, equals, parted_by, line_words, Line, place_among, find, among, all}
-use Rattle.text.specs.declared.Place.TheVariants.{At}
 use Rattle.text_decimals.specs.Decimal.{numeral, decimal}
 use Rattle.text.proofs.TextLaws.{none, more, every_append, among-at, among-find, equals-path}
 use Rattle.text_decimals.proofs.DecimalLaws.{decimal-length}
@@ -58,12 +58,12 @@ name-at k h = column-at (λ r. r.name) (λ w. w) (λ r. r.name) [] refl k h
 pub name-among : (k : ℕ) → k < 61 → among (kind_at k).name kind_names ≡ true
 name-among k h = subst (λ w. among w kind_names ≡ true) (name-at k h) (among-at kind_names k (rw names-count h))
 
-pub name-place : (k : ℕ) → k < 61 → place_among (kind_at k).name kind_names ≡ At k
+pub name-place : (k : ℕ) → k < 61 → place_among (kind_at k).name kind_names ≡ Some k
 name-place k h =
     let w = (kind_at k).name in
     let f = (among-find w kind_names (name-among k h)).0 in
     let n = kind-name w (name-among k h) in
-    f ∙ ap At (name-known (find w kind_names) k n.0 h n.1)
+    f ∙ ap Some (name-known (find w kind_names) k n.0 h n.1)
 
 -- ---- the argument
 

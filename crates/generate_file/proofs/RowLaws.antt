@@ -1,5 +1,6 @@
 -- Laws of the lines of values: a row is read as the words it was made of, and each of them is spelt, in its range and present.
 -- Assumes nothing.
+use Rattle.std.specs.Prelude.{Some}
 use mathlib.Core.Path.{◌≡◌, refl, sym, ap, ◌∙◌}
 use mathlib.Core.Bool.{Bool, true, false, cond, not, ◌&&◌, ◌||◌, false≢true}
 use mathlib.Core.List.{List, [], ◌∷◌}
@@ -10,7 +11,6 @@ use lib.IntN.{ℤ, pos}
 use lib.ListN.{length, get_or, drop}
 use borrow.Author.Tests.{eqb-true, le-leb, lt-ltb}
 use Rattle.text.specs.Text.{bytes, is_empty, equals, parted_by, line_words, among, all}
-use Rattle.text_decimals.specs.declared.Numeral.TheVariants.{Number as number}
 use Rattle.text_decimals.specs.Decimal.{numeral, decimal, integer}
 use Rattle.text.proofs.TextLaws.{Every, none, more, every_map, every_append, equals-path}
 use Rattle.text_decimals.proofs.DecimalLaws.{decimal-read}
@@ -181,7 +181,7 @@ pub record Fit (w : List ℕ) : Type 0 where
   pub ranged : cell_in_range (cell_word w) ≡ true
   pub present : cell_present 2 (cell_word w) ≡ true
 
-fit-number : (w : List ℕ) (z : ℤ) → Free 46 w → numeral w ≡ number z → within numbers z ≡ true → Fit w
+fit-number : (w : List ℕ) (z : ℤ) → Free 46 w → numeral w ≡ Some z → within numbers z ≡ true → Fit w
 unfolding is_cell cell_in_range cell_present
 fit-number w z f e h =
     let c = spelt-cell w z f e in

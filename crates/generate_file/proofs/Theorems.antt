@@ -1,4 +1,5 @@
 -- What is promised of the file of a seed, by name. Assumes nothing.
+use Rattle.std.specs.Prelude.{None, Option, Some}
 use mathlib.Core.Path.{◌≡◌, refl}
 use mathlib.Core.Logic.{◌⊎◌, inl, inr}
 use mathlib.Core.List.{List}
@@ -7,8 +8,6 @@ use lib.ListN.{length}
 use borrow.Author.Tests.{le-ltb}
 use Rattle.refusals.specs.declared.Refusal.TheVariants.{UnknownCell}
 use Rattle.text.specs.Text.{lines}
-use Rattle.file_format.specs.declared.RefusedLine.{RefusedLine}
-use Rattle.file_format.specs.declared.RefusedLine.TheVariants.{Nowhere as nowhere, Line as line}
 use Rattle.file_format.specs.declared.Row.TheVariants.{Known as known-row}
 use Rattle.file_format.specs.Rows.{refused_line, Passes}
 use Rattle.file_format.specs.Routine.{unread, routine, routine_of, or_else, checked, text_limit, limited, read_run}
@@ -32,6 +31,6 @@ pub file-runs : FileRuns
 unfolding or_else
 file-runs seed = go (refused_line known-row (lines (file seed))) (run-reads (file seed) (file-passes seed) (file-short seed))
   where
-    go : (r : RefusedLine) → read_run (file seed) ≡ or_else r UnknownCell (routine (routine_of (lines (file seed)))) → (read_run (file seed) ≡ routine (routine_of (lines (file seed)))) ⊎ ((k : ℕ) × (read_run (file seed) ≡ unread (UnknownCell k)))
-    go nowhere e = inl e
-    go (line k) e = inr (k, e)
+    go : (r : Option ℕ) → read_run (file seed) ≡ or_else r UnknownCell (routine (routine_of (lines (file seed)))) → (read_run (file seed) ≡ routine (routine_of (lines (file seed)))) ⊎ ((k : ℕ) × (read_run (file seed) ≡ unread (UnknownCell k)))
+    go None e = inl e
+    go (Some k) e = inr (k, e)

@@ -1,4 +1,5 @@
 -- Laws of the words of the file: none is empty, none holds a space or a line feed, and none is long; and of rows of them. Assumes nothing.
+use Rattle.std.specs.Prelude.{Some}
 use mathlib.Core.Path.{◌≡◌, refl, sym, ap, ◌∙◌}
 use mathlib.Core.Bool.{Bool, true, false, cond, not, ◌||◌}
 use mathlib.Core.List.{List, [], ◌∷◌, ◌++◌, append_assoc, append-nil}
@@ -9,7 +10,6 @@ use lib.IntN.{ℤ, pos}
 use lib.ListN.{length, length-append}
 use borrow.Author.Tests.{leb-true}
 use Rattle.text.specs.Text.{bytes, is_empty, all}
-use Rattle.text_decimals.specs.declared.Numeral.TheVariants.{Number as number}
 use Rattle.text_decimals.specs.Decimal.{numeral, decimal, integer}
 use Rattle.text.proofs.TextLaws.{Every, none, more, every_append, every-get_d, all-every}
 use Rattle.text_decimals.proofs.DecimalLaws.{decimal-length, decimal-read}
@@ -36,7 +36,7 @@ pub record Plain (w : List ℕ) : Type 0 where
   pub short : length w ≤ 12
 
 -- a text that spells a number is not empty
-spelt-some : (w : List ℕ) (z : ℤ) → numeral w ≡ number z → is_empty w ≡ false
+spelt-some : (w : List ℕ) (z : ℤ) → numeral w ≡ Some z → is_empty w ≡ false
 unfolding numeral
 spelt-some [] z e = let q : ◌≡◌ {A = ℕ} 0 1 = cc in absurd (omega arith)
 spelt-some (d ∷ ds) z e = refl

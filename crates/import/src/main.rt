@@ -8,7 +8,6 @@ ghost use Rattle.console.specs.Line.{printed};
 ghost use Rattle.words_entry.specs.Answers.{import_answer};
 
 use std::env::Env;
-use std::fs::File;
 
 // Puts what is printed for words and a primitives line at the start of out, and answers how many bytes it is.
 fn answer(words: &[u8], primitives: &[u8], out: &mut [u8]) -> usize
@@ -20,28 +19,17 @@ fn answer(words: &[u8], primitives: &[u8], out: &mut [u8]) -> usize
     console::put_line(answer, out)
 }
 
-// Prints the answer for the words of a file that is open.
-fn import_from(rt: &HostRuntime, file: &mut File, primitives: &[u8]) {
-    // the 1,025th instruction, at which words are refused at the latest, is within these bytes
-    let mut words = [0u8; 32769];
-    let input = console::read_from(file, &mut words);
-    if !input.is_whole {
-        console::read_failed(rt);
-        return;
-    }
-    let n = input.length;
-    let mut lines = [0u8; 32768];
-    let length = answer(&words[..n], primitives, &mut lines);
-    console::write(rt, &lines[..length]);
-}
-
-// Prints the answer for the words of the file at a path.
+// Prints the answer for the words of the file at a path. The 1,025th instruction, at which words are refused at the latest, is within the
+// bytes that are read.
 fn import_at(rt: &HostRuntime, path: &[u8], primitives: &[u8]) {
-    let Some(mut file) = console::open(rt, path) else {
-        console::say(rt, b"the file of words could not be opened\n");
-        return;
-    };
-    import_from(rt, &mut file, primitives);
+    let mut lines = [0u8; 32768];
+    console::print_for_file(
+        rt,
+        path,
+        b"the file of words could not be opened\n",
+        &mut lines,
+        |words, out| answer(words, primitives, out),
+    );
 }
 
 fn main(rt: HostRuntime) {

@@ -1,6 +1,7 @@
 -- The table's rule, once for every column. A column of the code is what h gives of each kind in order, and g reads it as f: that g
 -- undoes h at each kind is computed for the whole table. And an argument is known by its code and its range. Assumes
 -- nothing.
+use Rattle.std.specs.Prelude.{Option, Some}
 use mathlib.Core.Path.{◌≡◌, refl, sym, ap, ◌∙◌}
 use mathlib.Core.Bool.{cond}
 use mathlib.Core.List.{List, [], ◌∷◌, map}
@@ -13,8 +14,6 @@ use lib.ListN.{length, get_or, get_or-map}
 use mir.Syntax.{Width}
 use mir.Val.{of_z, to_z}
 use Rattle.text.specs.Text.{place_among, find}
-use Rattle.text.specs.declared.Place.{Place}
-use Rattle.text.specs.declared.Place.TheVariants.{At}
 use Rattle.text.proofs.TextLaws.{place-below, find-below}
 use Rattle.numbers.specs.declared.Range.{Range}
 use Rattle.instructions.specs.declared.Argument.{Argument}
@@ -39,7 +38,7 @@ column-at h g f d e k l =
 
 -- the place of a kind's name, as it is found and as an index
 
-pub kind-below : (w : List ℕ) {k : ℕ} → place_among w kind_names ≡ At k → k < 61
+pub kind-below : (w : List ℕ) {k : ℕ} → place_among w kind_names ≡ Some k → k < 61
 kind-below w e = rw names-count at (place-below 0 w kind_names e)
 
 pub kind-small : (w : List ℕ) → find w kind_names < 61
@@ -60,7 +59,7 @@ unfolding kinds
 read_back w f e k l q = ap (λ z. to_z w (of_z w z)) (q ∙ sym (column-at f (λ x. x) f (pos 0) refl k l)) ∙ integer-at w f e k l
 
 -- a place holds one kind
-pub one_place : {p : Place} {j k : ℕ} → p ≡ At j → p ≡ At k → j ≡ k
+pub one_place : {p : Option ℕ} {j k : ℕ} → p ≡ Some j → p ≡ Some k → j ≡ k
 one_place e f = cc
 
 -- the argument with a code and a range

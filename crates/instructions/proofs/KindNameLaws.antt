@@ -1,5 +1,6 @@
 -- Laws of names: a name among others stands at the place where it is found, names that do not repeat are known by their places, and
 -- the names of the kinds are such, with no space in them. Assumes nothing.
+use Rattle.std.specs.Prelude.{None, Option, Some}
 use mathlib.Core.Path.{◌≡◌, refl, sym, ap, subst, ◌∙◌}
 use mathlib.Core.Bool.{Bool, true, false, cond, not, ◌&&◌, false≢true}
 use mathlib.Core.List.{List, [], ◌∷◌}
@@ -10,8 +11,6 @@ use lib.Dec.{ltb}
 use lib.ListN.{length, get_or}
 use borrow.Author.Tests.{eq-eqb, not-true, ltb-true}
 use Rattle.text.specs.Text.{equals, place_from, place_among, index_of, find, among, all, distinct}
-use Rattle.text.specs.declared.Place.{Place}
-use Rattle.text.specs.declared.Place.TheVariants.{At, Missing}
 use Rattle.text.proofs.TextLaws.{every_map, every-get_d, all-every, and_left, and_right, equals-path, is_found, among-place, place-below}
 use Rattle.instructions.specs.Kinds.{Kind, kinds, kind_names, kind_at}
 use Rattle.instructions.proofs.ColumnLaws.{column-at}
@@ -19,12 +18,12 @@ use Rattle.text.proofs.JoinLaws.{Free}
 
 -- ---- a name among others
 
-place-word : (k : ℕ) (w : List ℕ) (ws : List (List ℕ)) {n : ℕ} → place_from k w ws ≡ At n → (k ≤ n) × ((i : ℕ) → n ≡ k + i → get_or ws i [] ≡ w)
+place-word : (k : ℕ) (w : List ℕ) (ws : List (List ℕ)) {n : ℕ} → place_from k w ws ≡ Some n → (k ≤ n) × ((i : ℕ) → n ≡ k + i → get_or ws i [] ≡ w)
 place-word k w [] e = let z : ◌≡◌ {A = ℕ} 0 1 = cc in absurd (omega arith)
 place-word k w (x ∷ xs) {n} e = go (equals w x) refl e (place-word (suc k) w xs)
   where
-    go : (b : Bool) → equals w x ≡ b → cond b (At k) (place_from (suc k) w xs) ≡ At n
-        → (place_from (suc k) w xs ≡ At n → (suc k ≤ n) × ((i : ℕ) → n ≡ suc k + i → get_or xs i [] ≡ w))
+    go : (b : Bool) → equals w x ≡ b → cond b (Some k) (place_from (suc k) w xs) ≡ Some n
+        → (place_from (suc k) w xs ≡ Some n → (suc k ≤ n) × ((i : ℕ) → n ≡ suc k + i → get_or xs i [] ≡ w))
         → (k ≤ n) × ((i : ℕ) → n ≡ k + i → get_or (x ∷ xs) i [] ≡ w)
     go true q p ih = let z : k ≡ n = cc in (omega arith, first z)
       where
@@ -42,9 +41,9 @@ pub found-there : (w : List ℕ) (ws : List (List ℕ)) → among w ws ≡ true 
 unfolding find
 found-there w ws e = go (place_among w ws) refl (sym (among-place 0 w ws) ∙ e)
   where
-    go : (p : Place) → place_among w ws ≡ p → is_found p ≡ true → (index_of p < length ws) × (get_or ws (index_of p) [] ≡ w)
-    go (At k) q f = let h = place-below 0 w ws q in (omega arith, (place-word 0 w ws q).1 k (omega arith))
-    go Missing q f = absurd (false≢true f)
+    go : (p : Option ℕ) → place_among w ws ≡ p → is_found p ≡ true → (index_of p < length ws) × (get_or ws (index_of p) [] ≡ w)
+    go (Some k) q f = let h = place-below 0 w ws q in (omega arith, (place-word 0 w ws q).1 k (omega arith))
+    go None q f = absurd (false≢true f)
 
 -- ---- names that do not repeat
 

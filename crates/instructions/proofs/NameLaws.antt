@@ -1,5 +1,6 @@
 -- A kind by its name. In a list of kinds by key a name stands for its own kind, and in a list of starts each name stands where its
 -- start says: both are computed for the whole table. Assumes nothing.
+use Rattle.std.specs.Prelude.{None, Option, Some}
 use Prim.Native.Nat.{ℕ, zero, suc, ◌+◌, ◌-◌, ◌<◌, ◌≤◌}
 use mathlib.Core.Path.{◌≡◌, refl, sym, ap, subst, ◌∙◌}
 use mathlib.Core.Bool.{Bool, true, false, false≢true, ◌&&◌}
@@ -13,8 +14,6 @@ use mir.Syntax.{w64}
 use mir.Val.{Fits}
 use borrow.Author.Tests.{eqb-true, ltb-true, leb-true}
 use Rattle.text.specs.Text.{equals, place_among, find, among, all}
-use Rattle.text.specs.declared.Place.{Place}
-use Rattle.text.specs.declared.Place.TheVariants.{At, Missing}
 use Rattle.text.proofs.TextLaws.{and_left, and_right, every-get_d, every_map, all-every, among-every, among-at, is_found, among-place, equals-path, equals-self, among-find}
 use Rattle.instructions.specs.Kinds.{kinds, kind_names, kind_at}
 use Rattle.instructions.specs.HeldColumns.{name_start, name_key, Keyed, Joined}
@@ -67,12 +66,12 @@ name-length w h =
     (leb-true 2 (length w) (and_left (leb 2 (length w)) (leb (length w) 12) e), leb-true (length w) 12 (and_right (leb 2 (length w)) (leb (length w) 12) e))
 
 -- what is not among the names has no place there
-pub not_named : (w : List ℕ) → (among w kind_names ≡ true → ⊥) → place_among w kind_names ≡ Missing
+pub not_named : (w : List ℕ) → (among w kind_names ≡ true → ⊥) → place_among w kind_names ≡ None
 not_named w h = go (place_among w kind_names) refl
   where
-    go : (p : Place) → place_among w kind_names ≡ p → place_among w kind_names ≡ Missing
-    go (At k) e = absurd (h (among-place 0 w kind_names ∙ ap is_found e))
-    go Missing e = e
+    go : (p : Option ℕ) → place_among w kind_names ≡ p → place_among w kind_names ≡ None
+    go (Some k) e = absurd (h (among-place 0 w kind_names ∙ ap is_found e))
+    go None e = e
 
 -- a name by its place
 name-at : (k : ℕ) → k < 61 → get_or kind_names k [] ≡ (kind_at k).name
@@ -84,13 +83,13 @@ module _ (w : List ℕ) (k : ℕ) (low : k < 61) (only : (j : ℕ) → j < 61 �
   found : among w kind_names ≡ true → k ≡ find w kind_names
   found a = only (find w kind_names) (kind-small w) (sym (among-find w kind_names a).1 ∙ name-at (find w kind_names) (kind-small w))
 
-  pub is-named : equals w (kind_at k).name ≡ true → place_among w kind_names ≡ At k
+  pub is-named : equals w (kind_at k).name ≡ true → place_among w kind_names ≡ Some k
   is-named e =
       let q = equals-path w (kind_at k).name e in
       let a = subst (λ x. among x kind_names ≡ true) (name-at k low ∙ sym q) (among-at kind_names k (rw names-count low)) in
-      (among-find w kind_names a).0 ∙ ap At (sym (found a))
+      (among-find w kind_names a).0 ∙ ap Some (sym (found a))
 
-  pub is-unnamed : equals w (kind_at k).name ≡ false → place_among w kind_names ≡ Missing
+  pub is-unnamed : equals w (kind_at k).name ≡ false → place_among w kind_names ≡ None
   is-unnamed e =
       not_named w
       (λ a.

@@ -1,5 +1,6 @@
 -- Laws of opcodes: no two kinds have the same, so that a kind is known by its opcode. The rule is computed once for the whole table.
 -- Assumes nothing.
+use Rattle.std.specs.Prelude.{None, Option, Some}
 use mathlib.Core.Path.{◌≡◌, refl, sym, ap, ◌∙◌}
 use mathlib.Core.Bool.{Bool, true, false, cond}
 use mathlib.Core.List.{List, [], ◌∷◌, map}
@@ -9,8 +10,6 @@ use native.Mathlib.Nat.{le_of_suc-le-suc, not-suc-le-zero}
 use lib.Dec.{eqb, ltb}
 use lib.ListN.{length, get_or, get_or-map}
 use borrow.Author.Tests.{eqb-true, ltb-true}
-use Rattle.text.specs.declared.Place.{Place}
-use Rattle.text.specs.declared.Place.TheVariants.{At as at, Missing as missing}
 use Rattle.instructions.specs.Kinds.{kinds, opcodes, kind_at}
 use Rattle.instructions.specs.Opcodes.{place_from, kind_coded}
 use Rattle.instructions.specs.HeldColumns.{coded_place, ByOpcode}
@@ -19,13 +18,13 @@ use Rattle.instructions.proofs.ColumnLaws.{column-at, natural-at}
 -- ---- a search along a list
 
 -- what is found stands there
-pub place_found : (j n k : ℕ) (l : List ℕ) → place_from j n l ≡ at k → (j ≤ k) × (k < j + length l) × ((i : ℕ) → k ≡ j + i → get_or l i 0 ≡ n)
+pub place_found : (j n k : ℕ) (l : List ℕ) → place_from j n l ≡ Some k → (j ≤ k) × (k < j + length l) × ((i : ℕ) → k ≡ j + i → get_or l i 0 ≡ n)
 unfolding place_from
 place_found j n k [] e = let z : ◌≡◌ {A = ℕ} 0 1 = cc in absurd (omega arith)
 place_found j n k (m ∷ ms) e = go (eqb n m) refl e (place_found (suc j) n k ms)
   where
-    go : (b : Bool) → eqb n m ≡ b → cond b (at j) (place_from (suc j) n ms) ≡ at k
-        → (place_from (suc j) n ms ≡ at k → (suc j ≤ k) × (k < suc j + length ms) × ((i : ℕ) → k ≡ suc j + i → get_or ms i 0 ≡ n))
+    go : (b : Bool) → eqb n m ≡ b → cond b (Some j) (place_from (suc j) n ms) ≡ Some k
+        → (place_from (suc j) n ms ≡ Some k → (suc j ≤ k) × (k < suc j + length ms) × ((i : ℕ) → k ≡ suc j + i → get_or ms i 0 ≡ n))
         → (j ≤ k) × (k < j + suc (length ms)) × ((i : ℕ) → k ≡ j + i → get_or (m ∷ ms) i 0 ≡ n)
     go true q p ih = let z : j ≡ k = cc in (omega arith, omega arith, first z)
       where
@@ -51,11 +50,11 @@ count_at j (suc n) zero h = omega arith
 count_at j (suc n) (suc k) h = count_at (suc j) n k (le_of_suc-le-suc h) ∙ omega arith
 
 -- each opcode is found at its own kind: computed for the whole table
-all_found : map kind_coded opcodes ≡ map at (count 0 61)
+all_found : map kind_coded opcodes ≡ map Some (count 0 61)
 unfolding kinds opcodes kind_coded place_from
 all_found = refl
 
-first_found : kind_coded 0 ≡ at 0
+first_found : kind_coded 0 ≡ Some 0
 unfolding kinds opcodes kind_coded place_from
 first_found = refl
 
@@ -65,17 +64,17 @@ unfolding opcodes
 opcode-of k h = natural-at (λ r. r.opcode) k h
 
 -- "numbered as in the OCaml distribution's public opcode list": one-to-one
-pub kind-of-opcode : (k : ℕ) → k < 61 → kind_coded (kind_at k).opcode ≡ at k
+pub kind-of-opcode : (k : ℕ) → k < 61 → kind_coded (kind_at k).opcode ≡ Some k
 kind-of-opcode k h =
     ap kind_coded (sym (opcode-of k h))
     ∙ sym (get_or-map kind_coded opcodes k 0)
     ∙ ap (λ l. get_or l k (kind_coded 0)) all_found
-    ∙ ap (λ p. get_or (map at (count 0 61)) k p) first_found
-    ∙ get_or-map at (count 0 61) k 0
-    ∙ ap at (count_at 0 61 k h ∙ omega arith)
+    ∙ ap (λ p. get_or (map Some (count 0 61)) k p) first_found
+    ∙ get_or-map Some (count 0 61) k 0
+    ∙ ap Some (count_at 0 61 k h ∙ omega arith)
 
 -- the kind that is found has the opcode
-pub opcode-of-kind : (n k : ℕ) → kind_coded n ≡ at k → (k < 61) × ((kind_at k).opcode ≡ n)
+pub opcode-of-kind : (n k : ℕ) → kind_coded n ≡ Some k → (k < 61) × ((kind_at k).opcode ≡ n)
 unfolding kinds opcodes kind_coded
 opcode-of-kind n k e =
     let f = place_found 0 n k opcodes e in
@@ -100,27 +99,27 @@ opcode-low k h =
     omega (arith, natural-at (λ r. r.opcode) k h)
 
 module _ (n : ℕ) where
-  pub coded-high : 143 < n → kind_coded n ≡ missing
+  pub coded-high : 143 < n → kind_coded n ≡ None
   coded-high h = go (kind_coded n) refl
     where
-      go : (p : Place) → kind_coded n ≡ p → kind_coded n ≡ missing
-      go (at k) e = let o = opcode-of-kind n k e in absurd (omega (arith, o.1, opcode-low k o.0))
-      go missing e = e
+      go : (p : Option ℕ) → kind_coded n ≡ p → kind_coded n ≡ None
+      go (Some k) e = let o = opcode-of-kind n k e in absurd (omega (arith, o.1, opcode-low k o.0))
+      go None e = e
 
   -- the kind that is held for an opcode is its kind, and 61 says that it has none
   module _ (v : ℕ) (held : v ≡ coded_place (kind_coded n)) where
-    pub coded-found : v < 61 → at v ≡ kind_coded n
+    pub coded-found : v < 61 → Some v ≡ kind_coded n
     unfolding coded_place
     coded-found h = go (kind_coded n) refl held
       where
-        go : (p : Place) → kind_coded n ≡ p → v ≡ coded_place p → at v ≡ p
-        go (at k) e q = ap at q
-        go missing e q = absurd (omega arith)
+        go : (p : Option ℕ) → kind_coded n ≡ p → v ≡ coded_place p → Some v ≡ p
+        go (Some k) e q = ap Some q
+        go None e q = absurd (omega arith)
 
-    pub coded-missing : 61 ≤ v → missing ≡ kind_coded n
+    pub coded-missing : 61 ≤ v → None ≡ kind_coded n
     unfolding coded_place
     coded-missing h = go (kind_coded n) refl held
       where
-        go : (p : Place) → kind_coded n ≡ p → v ≡ coded_place p → missing ≡ p
-        go (at k) e q = absurd (omega (arith, (opcode-of-kind n k e).0))
-        go missing e q = refl
+        go : (p : Option ℕ) → kind_coded n ≡ p → v ≡ coded_place p → None ≡ p
+        go (Some k) e q = absurd (omega (arith, (opcode-of-kind n k e).0))
+        go None e q = refl

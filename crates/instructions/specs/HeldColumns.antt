@@ -1,12 +1,10 @@
 -- The table by columns of numbers, as the code has it: what stands in each column at a kind.
-use Rattle.std.specs.Prelude.{◌+◌, ◌-◌, ◌*◌, ◌%◌, ◌≤◌, ◌<◌, ◌∷◌, ◌≡◌}
+use Rattle.std.specs.Prelude.{◌+◌, ◌-◌, ◌*◌, ◌%◌, ◌≤◌, ◌<◌, ◌∷◌, ◌≡◌, None, Option, Some}
 use Rattle.refusals.specs.Library.{ℕ, ℤ, pos, length, get_or, take, drop, List, []}
 use Rattle.numbers.specs.declared.Range.{Range}
 use Rattle.numbers.specs.Numbers.{naturals}
 use Rattle.numbers.specs.declared.Comparison.{Comparison}
 use Rattle.numbers.specs.declared.Comparison.TheVariants.{Equal, Unequal, Less, AtMost, Greater, AtLeast}
-use Rattle.text.specs.declared.Place.{Place}
-use Rattle.text.specs.declared.Place.TheVariants.{At as at, Missing as missing}
 use Rattle.cells.specs.declared.Unary.{Unary}
 use Rattle.cells.specs.declared.Unary.TheVariants.{Offset, Negate, Complement}
 use Rattle.cells.specs.declared.Binary.{Binary}
@@ -121,9 +119,9 @@ unfoldable pub operation_of : ℕ → Operation
 operation_of k = get_or operations k Stop
 
 -- a place as the code holds it: 61 where there is none
-unfoldable pub coded_place : Place → ℕ
-coded_place (at k) = k
-coded_place missing = 61
+unfoldable pub coded_place : Option ℕ → ℕ
+coded_place (Some k) = k
+coded_place None = 61
 
 -- t holds at each opcode below 144 the place of its kind
 pub record ByOpcode (t : List ℕ) : Type 0 where

@@ -1,17 +1,15 @@
 // The 61 instruction kinds, and their table by columns. The meaning is in specs/.
 #![tactic(auto)]
 
-ghost use Rattle.std.specs.Prelude.{◌≡◌, ℕ, ◌+◌, ◌≤◌, ◌<◌, ltb, length};
+ghost use Rattle.std.specs.Prelude.{◌≡◌, ℕ, ◌+◌, ◌≤◌, ◌<◌, ltb, length, Some};
 ghost use Rattle.text.specs.Text.{equals, place_among};
 ghost use Rattle.text_decimals.specs.Memory.{over};
-ghost use Rattle.text.specs.declared.Place.TheVariants.{At};
 ghost use Rattle.instructions.specs.Kinds.{kind_names, calls, kind_at};
 ghost use Rattle.instructions.specs.HeldColumns.{name_start, name_key, Keyed, Begins, Joined, argument_code, range_of, Codes, Lows, Highs, operation_code, ByOpcode};
 ghost use Rattle.instructions.specs.Opcodes.{kind_coded};
 
 use cells::{Binary, Unary};
 use numbers::Range;
-use text::Place;
 
 mod arguments;
 mod columns;
@@ -127,12 +125,17 @@ pub fn range_highs() -> [i64; 61]
 }
 
 // What the kind at a place takes, by tables that are lent; nothing where there is no kind.
-pub fn argument_in(codes: &[u8; 61], lows: &[i64; 61], highs: &[i64; 61], kind: Place) -> Argument
+pub fn argument_in(
+    codes: &[u8; 61],
+    lows: &[i64; 61],
+    highs: &[i64; 61],
+    kind: Option<usize>,
+) -> Argument
     requires codes { Codes codes.now × Lows lows.now × Highs highs.now }
-    requires by_index { (k : ℕ) → kind ≡ At k → k < 61 }
-    ensures { (k : ℕ) → kind ≡ At k → result ≡ (kind_at k).argument }
+    requires by_index { (k : ℕ) → kind ≡ Some k → k < 61 }
+    ensures { (k : ℕ) → kind ≡ Some k → result ≡ (kind_at k).argument }
 {
-    let Place::At(k) = kind else {
+    let Some(k) = kind else {
         return Argument::Absent;
     };
     match codes[k] {
@@ -176,12 +179,6 @@ pub fn fixed_at(k: usize) -> i32
     ensures { result ≡ (kind_at k).fixed }
 {
     columns::FIXED[k] as i32
-}
-
-fn wide(x: u8) -> usize
-    ensures { (result ≡ x) × (result < 256) }
-{
-    x as usize
 }
 
 // The kinds by the keys of their names, to be lent to `kind_in`.
@@ -229,9 +226,9 @@ fn name_key(w: &[u8]) -> usize
     ensures { result ≡ name_key w.now }
 {
     let n = w.len();
-    let first = wide(w[0]);
-    let second = wide(w[1]);
-    let last = wide(w[n - 1]);
+    let first = usize::from(w[0]);
+    let second = usize::from(w[1]);
+    let last = usize::from(w[n - 1]);
     (first + second + 5 * last + 9 * n) % 256
 }
 
@@ -242,31 +239,31 @@ fn candidate(keyed: &[u8; 256], w: &[u8]) -> usize
     ensures only { (k : ℕ) → k < 61 → w.now ≡ (kind_at k).name → result ≡ k }
 {
     let key = name_key(w);
-    wide(keyed[key])
+    usize::from(keyed[key])
 }
 
 // The kind that a word names, by its place in the table: no search, since one kind alone can have the name. The three tables are lent, since
 // a constant array that is indexed where it stands is stored anew at each use.
-pub fn kind_in(keyed: &[u8; 256], starts: &[u16; 62], names: &[u8], w: &[u8]) -> Place
+pub fn kind_in(keyed: &[u8; 256], starts: &[u16; 62], names: &[u8], w: &[u8]) -> Option<usize>
     requires { Keyed keyed.now × Begins starts.now × Joined names.now }
     ensures { result ≡ place_among w.now kind_names }
 {
     if w.len() < 2 {
-        return Place::Missing;
+        return None;
     }
     if 12 < w.len() {
-        return Place::Missing;
+        return None;
     }
     let k = candidate(keyed, w);
     if is_name_of(starts, names, k, w) {
-        Place::At(k)
+        Some(k)
     } else {
-        Place::Missing
+        None
     }
 }
 
 // The same with tables of its own.
-pub fn kind_named(w: &[u8]) -> Place
+pub fn kind_named(w: &[u8]) -> Option<usize>
     ensures { result ≡ place_among w.now kind_names }
 {
     let keyed = keyed_kinds();
@@ -291,15 +288,15 @@ pub fn coded_kinds() -> [u8; 144]
 }
 
 // The kind with an opcode, by its place in the table.
-pub fn kind_coded(coded: &[u8; 144], opcode: u32) -> Place
+pub fn kind_coded(coded: &[u8; 144], opcode: u32) -> Option<usize>
     requires { ByOpcode coded.now }
     ensures { result ≡ kind_coded opcode }
 {
     if 143 < opcode {
-        return Place::Missing;
+        return None;
     }
-    let k = wide(coded[opcode as usize]);
-    if k < 61 { Place::At(k) } else { Place::Missing }
+    let k = usize::from(coded[opcode as usize]);
+    if k < 61 { Some(k) } else { None }
 }
 
 // Puts the name of a kind over out from `at` on, and answers where it ends. The two tables are lent, as to `kind_in`.

@@ -3,7 +3,6 @@
 
 ghost use Rattle.std.specs.Prelude.{◌≡◌, true, cond, ◌+◌, ◌<◌, ◌≤◌};
 ghost use Rattle.cells.specs.Cells.{condition};
-ghost use Rattle.cells.specs.HeldAnswers.{of_operand};
 ghost use Rattle.cells.specs.declared.Binary.TheVariants.{Compare};
 ghost use Rattle.instructions.specs.declared.Operation.TheVariants.{Combine};
 ghost use Rattle.machine.specs.Machine.{index};
@@ -11,7 +10,7 @@ ghost use Rattle.instructions.specs.HeldColumns.{operation_of};
 ghost use Rattle.machine_outcome.specs.declared.Outcome.TheVariants.{Stuck};
 ghost use Rattle.machine_outcome.specs.HeldOutcome.{is_on_cells, operated, branching, outcome, entry_of, drops};
 
-use cells::{Binary, Cell, Condition, Operand, Tested, Unary};
+use cells::{Binary, Cell, Condition, Unary};
 use instructions::operations;
 use numbers::Comparison;
 
@@ -43,7 +42,7 @@ fn outcome_branching(a: Cell, zero: bool) -> Outcome
     ensures { result ≡ branching zero a (condition a) }
 {
     let tested = cells::condition_of(a);
-    let Tested::Is(x) = tested else {
+    let Some(x) = tested else {
         return Outcome::Stuck;
     };
     match x {
@@ -93,9 +92,9 @@ fn binary_of(code: u8) -> Binary
 }
 
 // What an operation on the accumulator, or on it and the entry, gives, with the operand.
-pub fn operated(code: u8, operand: i32, accu: Cell, entry: Cell) -> Operand
+pub fn operated(code: u8, operand: i32, accu: Cell, entry: Cell) -> Option<Cell>
     requires { (code ≤ 22) × (is_on_cells (operation_of code) ≡ true) }
-    ensures { of_operand result ≡ operated (operation_of code) operand accu entry }
+    ensures { result ≡ operated (operation_of code) operand accu entry }
 {
     match code {
         operations::OFFSET => cells::operate1(Unary::Offset, operand, accu),

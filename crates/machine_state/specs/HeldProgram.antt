@@ -1,13 +1,11 @@
 -- A routine's program as one list of words, as the run and the explorer are lent it: its first address, how many lines it has, how many
 -- blocks, the sizes of eight blocks, and five words for each line.
-use Rattle.std.specs.Prelude.{◌+◌, ◌*◌, ◌%◌, ◌≤◌, ◌<◌, ◌∷◌, ◌≡◌}
+use Rattle.std.specs.Prelude.{◌+◌, ◌*◌, ◌%◌, ◌≤◌, ◌<◌, ◌∷◌, ◌≡◌, None, Option, Some}
 use Rattle.refusals.specs.Library.{ℕ, zero, suc, leb, ℤ, length, get_or, take, drop, List, []}
 use Rattle.machine.specs.Terms.{Try, done, stuck, Code, Instruction}
 use Rattle.numbers.specs.Numbers.{signed}
 use Rattle.instructions.specs.HeldColumns.{operation_of}
 use Rattle.machine_state.specs.declared.code.Line.{Line}
-use Rattle.machine_state.specs.declared.code.Fetched.{Fetched}
-use Rattle.machine_state.specs.declared.code.Fetched.TheVariants.{Is, Outside}
 
 -- the head of a program, its words 0 to 10
 abbrev pub first_address_of : List ℕ → ℕ
@@ -51,9 +49,9 @@ unfoldable pub program_of : List ℕ → Code
 program_of ws = record { first = first_address_of ws; instructions = lines_from ws (lines_in ws) 11 }
 
 -- what the code's answer stands for
-abbrev pub of_fetched : Fetched → Try Instruction
-of_fetched (Is l) = done (line_of l)
-of_fetched Outside = stuck
+abbrev pub of_fetched : Option Line → Try Instruction
+of_fetched (Some l) = done (line_of l)
+of_fetched None = stuck
 
 -- a list of words is a program: room for 1,024 lines; addresses, lines and blocks within their limits; at most sixteen fields in a block;
 -- codes of operations
@@ -66,6 +64,6 @@ pub record IsProgram (ws : List ℕ) : Type 0 where
   pub codes : (j : ℕ) → j < lines_in ws → get_or ws (11 + j * 5) 0 % 32 ≤ 22
 
 -- a fetched line has the code of an operation
-abbrev pub Known : Fetched → Type 0
-Known (Is l) = l.code ≤ 22
-Known Outside = Unit {0}
+abbrev pub Known : Option Line → Type 0
+Known (Some l) = l.code ≤ 22
+Known None = Unit {0}

@@ -4,8 +4,6 @@ use Rattle.refusals.specs.Library.{ℕ, ltb, length, get_or, take, drop, cond, L
 use Rattle.machine.specs.Terms.{Try, done, stuck, ◌>>=◌, Cell, State}
 use Rattle.cells.specs.Cells.{block}
 use Rattle.machine.specs.Machine.{stack_limit, reblock}
-use Rattle.machine_state.specs.declared.Slot.{Slot}
-use Rattle.machine_state.specs.declared.Slot.TheVariants.{At, Lacks}
 use Rattle.machine_state.specs.declared.State as code
 
 -- the state without its blocks: the first `free` cells of the array are unused, then comes the top, "entry 0 on top"
@@ -30,11 +28,6 @@ slot ns a n = block a >>= λ k. cond (ltb k (length ns)) (cond (ltb n (get_or ns
 pub record Fits (ns : List ℕ) (fs : List Cell) : Type 0 where
   pub few : (k : ℕ) → get_or ns k 0 ≤ 16
   pub room : length ns * 16 ≤ length fs
-
--- what the code's answer stands for
-abbrev pub of_slot : Slot → Try ℕ
-of_slot (At j) = done j
-of_slot Lacks = stuck
 
 -- the state with its blocks
 unfoldable pub whole : List ℕ → List Cell → code.State → State

@@ -17,30 +17,24 @@ pub struct Line {
     pub extra: u32,
 }
 
-#[derive(Clone, Copy)]
-pub enum Fetched {
-    Is(Line),
-    Outside,
-}
-
 // The line at an address. The first word of a line is its operation's code, 32 more where the line pushes first, and 64 more where it calls a
 // primitive; then come its operand in two's complement, its cycles, its words and what more it costs where it jumps.
-pub fn fetch(code: &[u32; 5131], at: usize) -> Fetched
+pub fn fetch(code: &[u32; 5131], at: usize) -> Option<Line>
     requires { IsProgram code.now }
     ensures result_value { of_fetched result ≡ fetch (program_of code.now) at }
     ensures known { Known result }
 {
     let first = code[0] as usize;
     if at < first {
-        return Fetched::Outside;
+        return None;
     }
     let j = at - first;
     if code[1] as usize <= j {
-        return Fetched::Outside;
+        return None;
     }
     let k = 11 + j * 5;
     let word = code[k];
-    Fetched::Is(Line {
+    Some(Line {
         code: (word % 32) as u8,
         pushes: 32 <= word % 64,
         calls: 64 <= word,

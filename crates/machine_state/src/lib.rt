@@ -6,9 +6,9 @@ ghost use Rattle.cells.specs.Try.{done};
 ghost use Rattle.machine.specs.Machine.{push, pop, store, load, advance, jump};
 ghost use Rattle.machine_state.specs.HeldProgram.{sizes_of, IsProgram};
 ghost use Rattle.machine_state.specs.HeldRegisters.{registers_of, with_stack};
-ghost use Rattle.machine_state.specs.HeldState.{view, WellFormed, slot, of_slot};
+ghost use Rattle.machine_state.specs.HeldState.{view, WellFormed, slot};
 
-use cells::{Cell, Handled};
+use cells::Cell;
 use registers::Registers;
 
 pub mod code;
@@ -133,13 +133,6 @@ impl State {
     }
 }
 
-// Where a field stands in the array of fields.
-#[derive(Clone, Copy)]
-pub enum Slot {
-    At(usize),
-    Lacks,
-}
-
 // How many blocks there are.
 pub fn count_blocks(code: &[u32; 5131]) -> usize
     requires { IsProgram code.now }
@@ -157,20 +150,17 @@ pub fn size_of(code: &[u32; 5131], k: usize) -> usize
 }
 
 // The place of field `n` of the block that `a` handles.
-pub fn slot_of(code: &[u32; 5131], a: Cell, n: usize) -> Slot
+pub fn slot_of(code: &[u32; 5131], a: Cell, n: usize) -> Option<usize>
     requires { IsProgram code.now }
-    ensures { of_slot result ≡ slot (sizes_of code.now) a n }
+    ensures { result ≡ slot (sizes_of code.now) a n }
 {
-    let handled = cells::block(a);
-    let Handled::Block(h) = handled else {
-        return Slot::Lacks;
-    };
-    let k = h as usize;
+    let handled = cells::block(a)?;
+    let k = handled as usize;
     if count_blocks(code) <= k {
-        return Slot::Lacks;
+        return None;
     }
     if size_of(code, k) <= n {
-        return Slot::Lacks;
+        return None;
     }
-    Slot::At(k * 16 + n)
+    Some(k * 16 + n)
 }

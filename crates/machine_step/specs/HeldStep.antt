@@ -1,11 +1,9 @@
 -- What a step by value stands for.
-use Rattle.std.specs.Prelude.{◌<◌, ◌≡◌}
+use Rattle.std.specs.Prelude.{◌<◌, ◌≡◌, None, Option, Some}
 use Rattle.refusals.specs.Library.{ℕ, set, Bool, List}
 use Rattle.machine.specs.Terms.{Try, done, stuck, Cell, State, Price, Next, stops, goes, opens, jump}
 use Rattle.machine_state.specs.declared.State as states
 use Rattle.machine_step.specs.declared.Next.TheVariants.{Stuck, Stops, Goes, Opens}
-use Rattle.machine_step.specs.declared.Update.{Update}
-use Rattle.machine_step.specs.declared.Update.TheVariants.{Nothing, Field}
 use Rattle.machine_step.specs.declared.Stepped.{Stepped}
 use Rattle.machine_step.specs.declared.Price as code
 use Rattle.machine_step.specs.declared.Next as code-next
@@ -34,13 +32,13 @@ of_next (Goes p) s = done (goes (of_price p) s)
 of_next (Opens p a q) s = done (opens (of_price p) s (of_price q) (jump a s))
 
 -- the fields gs differ from fs by the change: in nothing, or at one of the 128 places
-abbrev pub Differs : Update → List Cell → List Cell → Type 0
-Differs Nothing fs gs = gs ≡ fs
-Differs (Field j c) fs gs = (j < 128) × (gs ≡ set fs j c)
+abbrev pub Differs : Option (ℕ × Cell) → List Cell → List Cell → Type 0
+Differs None fs gs = gs ≡ fs
+Differs (Some (j, c)) fs gs = (j < 128) × (gs ≡ set fs j c)
 
 -- a step that leaves the blocks as they were, and one that sets the field at place j
 abbrev pub keeping : code-next.Next → Bool → states.State → List Cell → Stepped
-keeping n b s fs = record { next = n; calls = b; change = Nothing; state = s; blocks = fs }
+keeping n b s fs = record { next = n; calls = b; change = None; state = s; blocks = fs }
 
 abbrev pub setting_field : code-next.Next → Bool → ℕ → Cell → states.State → List Cell → Stepped
-setting_field n b j c s fs = record { next = n; calls = b; change = Field j c; state = s; blocks = set fs j c }
+setting_field n b j c s fs = record { next = n; calls = b; change = Some (j, c); state = s; blocks = set fs j c }

@@ -5,9 +5,8 @@ ghost use Rattle.machine_outcome.specs.HeldOutcome.{outcome};
 ghost use Rattle.machine_state.specs.HeldProgram.{sizes_of, IsProgram};
 ghost use Rattle.machine_step.specs.HeldEffect.{effect};
 
-use cells::{Cell, Operand};
+use cells::Cell;
 use machine_outcome::Outcome;
-use machine_state::Slot;
 use machine_state::code::Line;
 
 // What a line comes to, before the state and the blocks are changed: the operation on cells is made, and the field is found.
@@ -49,7 +48,7 @@ pub fn effect_of(
         Outcome::Gives(c) => Effect::Gives(machine_outcome::drops_of(line.code, index), c),
         Outcome::Operates => {
             let given = machine_outcome::operated(line.code, line.operand, accu, entry);
-            let Operand::Is(c) = given else {
+            let Some(c) = given else {
                 return Effect::Stuck;
             };
             Effect::Gives(machine_outcome::drops_of(line.code, index), c)
@@ -57,14 +56,14 @@ pub fn effect_of(
         Outcome::Stores => Effect::Stores,
         Outcome::Sets(c) => {
             let field = machine_state::slot_of(code, accu, index);
-            let Slot::At(j) = field else {
+            let Some(j) = field else {
                 return Effect::Stuck;
             };
             Effect::Sets(j, c)
         }
         Outcome::Gets => {
             let field = machine_state::slot_of(code, accu, index);
-            let Slot::At(j) = field else {
+            let Some(j) = field else {
                 return Effect::Stuck;
             };
             Effect::Gets(j)

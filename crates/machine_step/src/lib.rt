@@ -11,7 +11,7 @@ ghost use Rattle.machine_step.specs.HeldStep.{of_price, of_next, SmallPrice, Sma
 use cells::Cell;
 use effects::Effect;
 use machine_state::State;
-use machine_state::code::{Fetched, Line};
+use machine_state::code::Line;
 
 pub mod effects;
 
@@ -32,13 +32,6 @@ pub enum Next {
     Opens(Price, usize, Price),
 }
 
-// How the blocks differ from those before the step: in nothing, or in the field at the place, which has become the cell.
-#[derive(Clone, Copy)]
-pub enum Update {
-    Nothing,
-    Field(usize, Cell),
-}
-
 // What a step gives: what comes next, with the state and the blocks, whether an answer was taken, and how the blocks differ. The blocks come
 // first: they are then copied once, where a part written before them would have the compiler copy them twice.
 #[derive(Clone, Copy)]
@@ -47,7 +40,7 @@ pub struct Stepped {
     pub state: State,
     pub next: Next,
     pub calls: bool,
-    pub change: Update,
+    pub change: Option<(usize, Cell)>,
 }
 
 // What a line costs.
@@ -87,7 +80,7 @@ fn keep(next: Next, calls: bool, state: State, blocks: [Cell; 128]) -> Stepped
         state: state,
         next: next,
         calls: calls,
-        change: Update::Nothing,
+        change: None,
     }
 }
 
@@ -109,7 +102,7 @@ fn set_field(
         state: state,
         next: next,
         calls: calls,
-        change: Update::Field(j, c),
+        change: Some((j, c)),
     }
 }
 
@@ -121,7 +114,7 @@ pub fn step(code: &[u32; 5131], answer: Cell, mut state: State, blocks: [Cell; 1
     ensures well_formed { WellFormed result.state × Small result.next }
     ensures differs { Differs result.change blocks result.blocks }
 {
-    let Fetched::Is(line) = machine_state::code::fetch(code, state.at) else {
+    let Some(line) = machine_state::code::fetch(code, state.at) else {
         return keep(Next::Stuck, false, state, blocks);
     };
     let calls = line.calls;

@@ -3,12 +3,11 @@
 
 ghost use Rattle.std.specs.Prelude.{◌≡◌};
 ghost use Rattle.cells.specs.Cells.{results};
-ghost use Rattle.cells.specs.HeldAnswers.{of_operand};
 ghost use Rattle.cells.specs.HeldConfined.{confine, Confined};
 ghost use Rattle.merge_cells.specs.Merge.{lower, upper, merge_cells};
 ghost use Rattle.merge_cells.specs.HeldCodes.{decoded_cell};
 
-use cells::{Cell, Operand, Value};
+use cells::{Cell, Value};
 
 // The smaller of two numbers.
 fn lower(m: i32, n: i32) -> i32
@@ -25,9 +24,9 @@ fn upper(m: i32, n: i32) -> i32
 }
 
 // "A merge takes the smallest range that covers both."; a handle and anything else cannot be merged. (document 02 §9 and §12)
-pub fn merge(a: Cell, b: Cell) -> Operand
+pub fn merge(a: Cell, b: Cell) -> Option<Cell>
     requires { Confined a × Confined b }
-    ensures { of_operand result ≡ merge_cells a b }
+    ensures { result ≡ merge_cells a b }
 {
     let left = a.value;
     let right = b.value;
@@ -38,19 +37,13 @@ pub fn merge(a: Cell, b: Cell) -> Operand
                     cells::high(low, more) as i32,
                     cells::high(low2, more2) as i32,
                 );
-                Operand::Is(cells::between(lower(low, low2), high))
+                Some(cells::between(lower(low, low2), high))
             }
-            Value::Handle(_) => Operand::Stuck,
+            Value::Handle(_) => None,
         },
         Value::Handle(j) => match right {
-            Value::Range(_, _) => Operand::Stuck,
-            Value::Handle(k) => {
-                if j == k {
-                    Operand::Is(cells::handle(j))
-                } else {
-                    Operand::Stuck
-                }
-            }
+            Value::Range(_, _) => None,
+            Value::Handle(k) => { if j == k { Some(cells::handle(j)) } else { None } }
         },
     }
 }

@@ -1,4 +1,6 @@
 -- What the merging bound answers to a text. Assumes nothing.
+use Rattle.refusals.specs.declared.Refusal.{Refusal}
+use Rattle.std.specs.Prelude.{Result}
 use Prim.Native.Nat.{ℕ, ◌≤◌}
 use mathlib.Core.Path.{◌≡◌, ◌∙◌}
 use mathlib.Core.List.{List}
@@ -6,7 +8,6 @@ use Rattle.file_format.specs.Routine.{read_bound}
 use Rattle.file_format.specs.Routine as readings
 use Rattle.file_format.proofs.RowLaws.{read-passes}
 use Rattle.answers.specs.Answers.{memory_limit, memory, answer_of, report_length, Delivers}
-use Rattle.answers.specs.declared.Answer as code
 use Rattle.answers.proofs.AnswerLaws.{reading-passed, delivers}
 use Rattle.report_theory.specs.Answers.{merge_routine, merge_answer}
 use Rattle.report_theory.specs.Promises.{SafeMerge, ExactMerge, AboveMerge}
@@ -30,7 +31,7 @@ module _ (text : List ℕ) (n : ℕ) where
 
 -- ---- the promises
 
-module _ (text : List ℕ) (n : ℕ) (former out : List ℕ) (r : code.Answer) where
+module _ (text : List ℕ) (n : ℕ) (former out : List ℕ) (r : Result ℕ Refusal) where
   -- what the equations of an answer give besides
   pub merge_keeps : (r ≡ answer_of (merge_answer text n)) × (out ≡ memory (merge_answer text n) former) →
       (r ≡ answer_of (merge_answer text n)) × ((out ≡ memory (merge_answer text n) former)

@@ -11,13 +11,12 @@ ghost use Rattle.report_theory.specs.Promises.{SafeMerge, ExactMerge, AboveMerge
 ghost use Rattle.report_theory.specs.Listed.{MergeRefused, Refuses, ListedAlone};
 ghost use Rattle.report_theory.specs.Refined.{MonotoneMerge, KnownMerge};
 
-use answers::Answer;
 use file_check::Reader;
 use file_reader::Routine;
-use refusals::Acceptance;
+use refusals::Refusal;
 
 // The answer of the merging bound to a routine.
-fn merge_routine(routine: Routine, out: &mut [u8]) -> Answer
+fn merge_routine(routine: Routine, out: &mut [u8]) -> Result<usize, Refusal>
     requires limited { Limited routine }
     requires printable { Printable (merge_routine (routine_in routine)) routine.tick (length out.old) }
     ensures value { result ≡ answer_of (merge_routine (routine_in routine)) }
@@ -29,7 +28,7 @@ fn merge_routine(routine: Routine, out: &mut [u8]) -> Answer
 }
 
 // The merging bound of a routine file: the report in the lent memory, or a refusal.
-pub fn merge(text: &[u8], out: &mut [u8]) -> Answer
+pub fn merge(text: &[u8], out: &mut [u8]) -> Result<usize, Refusal>
     ensures value { result ≡ answer_of (merge_answer text.now (length out.old)) }
     ensures out_after { out.new ≡ memory (merge_answer text.now (length out.old)) out.old }
     ensures safe { Delivers (report_length result) out.new (SafeMerge text.now) }
@@ -39,12 +38,7 @@ pub fn merge(text: &[u8], out: &mut [u8]) -> Answer
     ensures above { Delivers (report_length result) out.new (AboveMerge text.now) }
     ensures listed { ListedAlone (Refuses result) (MergeRefused text.now (length out.old)) }
 {
-    let verdict = file_entry::check(Reader::Bound, 128, out.len(), text);
-    match verdict {
-        Acceptance::Accepted => {
-            let routine = file_reader::routine_of(text);
-            merge_routine(routine, out)
-        }
-        Acceptance::Refused(refusal) => Answer::Refused(refusal),
-    }
+    file_entry::check(Reader::Bound, 128, out.len(), text)?;
+    let routine = file_reader::routine_of(text);
+    merge_routine(routine, out)
 }

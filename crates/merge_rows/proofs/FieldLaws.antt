@@ -94,6 +94,10 @@ pub record Small (ns : List ℕ) : Type 0 where
 pub small_of : (ws : List ℕ) → IsProgram ws → Small (sizes_of ws)
 small_of ws p = record { blocks = omega (arith, sizes-count ws p, p.blocks); few = p.sizes }
 
+-- the block at k ends within the fields
+pub block-within : (ns : List ℕ) (k z : ℕ) → Small ns → k < length ns → z ≡ get_or ns k 0 → k * 16 + z ≤ 128
+block-within ns k z small r e = omega (arith, small.few k, small.blocks)
+
 -- the block at k, as the merge of its places is told of it
 module _ (ns xs ys : List ℕ) (k z : ℕ) (small : Small ns) (h : length xs ≡ 128) (l : length ys ≡ 128) (r : k < length ns) (e : z ≡ get_or ns k 0) where
   abbrev part : List ℕ → List ℕ

@@ -2,10 +2,9 @@
 use Prim.Native.Nat.{ℕ, ◌+◌, ◌<◌}
 use mathlib.Core.Path.{◌≡◌, refl, sym, ap, ap₂, ◌∙◌}
 use mathlib.Core.List.{List, [], ◌∷◌, ◌++◌, map}
-use native.Mathlib.Omega.{arith}
 use native.Mathlib.Numerals.{add-one}
 use lib.ListN.{length, get_or, take, set}
-use lib.Seq.{take_all, take-suc, take-suc-set}
+use lib.Seq.{take-suc, take-suc-set}
 use Rattle.cells.specs.declared.Cell.{Cell}
 use Rattle.merge_cells.specs.HeldCodes.{decoded_cell, decoded_cells}
 use Rattle.cells.specs.HeldConfined.{confine}
@@ -26,11 +25,6 @@ encoded-next xs cs d i x h k e p =
     ∙ ap₂ (λ (l : List Cell) (c : Cell). l ++ (c ∷ [])) p e
     ∙ sym (ap (map confine) (take-suc cs i d k) ∙ map-append (take i cs) (get_or cs i d ∷ [])))
 
--- as many as are lent are
-pub encoded-all : (xs : List ℕ) (cs : List Cell) (n i : ℕ) → i ≡ n → length xs ≡ n → decoded_cells (take i xs) ≡ map confine (take i cs) → decoded_cells xs ≡ map confine (take n cs)
-encoded-all xs cs n i e h p =
-    ap decoded_cells (sym (take_all i xs (omega arith))) ∙ p ∙ ap (λ (j : ℕ). map confine (take j cs)) e
-
 -- one number more is read as a cell
 pub decoded-next : (xs : List ℕ) (cs : List Cell) (i : ℕ) (c : Cell) → i < length xs → i < length cs → c ≡ decoded_cell (get_or xs i 0)
     → take i cs ≡ decoded_cells (take i xs) → take (i + 1) (set cs i c) ≡ decoded_cells (take (i + 1) xs)
@@ -40,8 +34,3 @@ decoded-next xs cs i c h k e p =
     (take-suc-set cs i c k
     ∙ ap₂ (λ (l : List Cell) (d : Cell). l ++ (d ∷ [])) p e
     ∙ sym (ap decoded_cells (take-suc xs i 0 h) ∙ cells-append (take i xs) (get_or xs i 0 ∷ [])))
-
--- all are
-pub decoded-all : (xs : List ℕ) (cs : List Cell) (n i : ℕ) → i ≡ n → length xs ≡ n → length cs ≡ n → take i cs ≡ decoded_cells (take i xs) → cs ≡ decoded_cells xs
-decoded-all xs cs n i e h k p =
-    sym (take_all i cs (omega arith)) ∙ p ∙ ap decoded_cells (take_all i xs (omega arith))

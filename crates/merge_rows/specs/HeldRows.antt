@@ -1,5 +1,5 @@
 -- What the numbers of the table stand for: what has come to an address.
-use Rattle.std.specs.Prelude.{◌+◌, ◌-◌, ◌*◌, ◌≡◌}
+use Rattle.std.specs.Prelude.{◌+◌, ◌-◌, ◌*◌, ◌≡◌, None, Option, Some}
 use Rattle.refusals.specs.Library.{ℕ, zero, suc, eqb, ltb, length, get_or, take, drop, Bool, true, false, cond, List}
 use Rattle.machine.specs.Terms.{Try, done, stuck, Cell, State, Price, Cellwise}
 use Rattle.merge_cells.specs.HeldCodes.{decoded_cell, decoded_cells}
@@ -8,8 +8,6 @@ use Rattle.machine_state.specs.HeldProgram.{lines_in}
 use Rattle.machine_state.specs.HeldState.{WellFormed, blocks_of, whole}
 use Rattle.merge_theory.specs.Merge.{Arrival, arrival, Slot, empty, unlike, held, join}
 use Rattle.merge_rows.specs.declared.Way.{Way}
-use Rattle.merge_rows.specs.declared.Merged.{Merged}
-use Rattle.merge_rows.specs.declared.Merged.TheVariants.{Unlike, Is}
 
 -- the arrays of a way have their lengths
 pub record Formed (w : Way) : Type 0 where
@@ -41,9 +39,9 @@ unfoldable pub unused_of : ℕ → ℕ
 unused_of n = cond (ltb n 64) n 64
 
 -- what the answers of the merges stand for, with what is left in the first list
-unfoldable pub of_merged : Merged → Try Cell
-of_merged Unlike = stuck
-of_merged (Is x) = done (decoded_cell x)
+unfoldable pub of_merged : Option ℕ → Try Cell
+of_merged None = stuck
+of_merged (Some x) = done (decoded_cell x)
 
 abbrev pub of_cells : Bool → List ℕ → Try (List Cell)
 of_cells true xs = done (decoded_cells xs)

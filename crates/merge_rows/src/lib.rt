@@ -10,7 +10,7 @@ ghost use Rattle.machine_state.specs.HeldState.{blocks_of};
 ghost use Rattle.merge_theory.specs.Merge.{merge_lists, merge_states, settle, larger, join};
 ghost use Rattle.merge_rows.specs.HeldRows.{Formed, Numeric, Row, Rows, unused_of, of_merged, of_cells, of_blocks, of_states, arrival_of, state_in, price_in, arrival_in, slot_in, slot_at, join_at, rows_of};
 
-use cells::{Cell, Operand};
+use cells::Cell;
 use machine_state::State;
 
 // A way to an address: the state that comes to it, with its blocks, and the largest sums of the ways to it.
@@ -22,27 +22,13 @@ pub struct Way {
     pub words: u64,
 }
 
-// The numbers of the cells of a stack from the place `low` on, as many as are lent.
-fn encode_stack(stack: [Cell; 64], low: usize, entries: &mut [u64])
-    requires { (length stack ≡ 64) × (low + length entries.old ≤ 64) }
-    ensures { decoded_cells entries.new ≡ map confine (take (length entries.old) (drop low stack)) }
+// The numbers of cells from the place `low` on, as many as are lent.
+fn encode_cells(cells: &[Cell], low: usize, numbers: &mut [u64])
+    requires { low + length numbers.old ≤ length cells.now }
+    ensures { decoded_cells numbers.new ≡ map confine (take (length numbers.old) (drop low cells.now)) }
 {
-    let mut i = 0;
-    while i < entries.len() {
-        entries[i] = merge_cells::encode(stack[low + i]);
-        i += 1;
-    }
-}
-
-// The numbers of the cells of the blocks from the place `low` on, as many as are lent.
-fn encode_fields(blocks: [Cell; 128], low: usize, fields: &mut [u64])
-    requires { (length blocks ≡ 128) × (low + length fields.old ≤ 128) }
-    ensures { decoded_cells fields.new ≡ map confine (take (length fields.old) (drop low blocks)) }
-{
-    let mut i = 0;
-    while i < fields.len() {
-        fields[i] = merge_cells::encode(blocks[low + i]);
-        i += 1;
+    for i in 0..numbers.len() {
+        numbers[i] = merge_cells::encode(cells[low + i]);
     }
 }
 
@@ -52,12 +38,10 @@ fn encode_blocks(blocks: [Cell; 128], fields: &mut [u64], code: &[u32; 5131])
     ensures { blocks_of (sizes_of code.now) (decoded_cells fields.new) ≡ blocks_of (sizes_of code.now) (map confine blocks) }
 {
     let count = machine_state::count_blocks(code);
-    let mut k = 0;
-    while k < count {
+    for k in 0..count {
         let low = k * 16;
         let high = low + machine_state::size_of(code, k);
-        encode_fields(blocks, low, &mut fields[low..high]);
-        k += 1;
+        encode_cells(&blocks, low, &mut fields[low..high]);
     }
 }
 
@@ -68,10 +52,8 @@ fn decode_stack(entries: &[u64], low: usize) -> [Cell; 64]
 {
     let none = cells::unknown();
     let mut stack = [none; 64];
-    let mut i = 0;
-    while i < entries.len() {
+    for i in 0..entries.len() {
         stack[low + i] = merge_cells::decode(entries[i]);
-        i += 1;
     }
     stack
 }
@@ -83,10 +65,8 @@ fn decode_fields(fields: &[u64]) -> [Cell; 128]
 {
     let none = cells::unknown();
     let mut blocks = [none; 128];
-    let mut i = 0;
-    while i < 128 {
+    for i in 0..128 {
         blocks[i] = merge_cells::decode(fields[i]);
-        i += 1;
     }
     blocks
 }
@@ -98,26 +78,15 @@ fn unused(n: u64) -> usize
     if n < 64 { n as usize } else { 64 }
 }
 
-// The merge of two cells as a number: none where they cannot be merged.
-#[derive(Clone, Copy)]
-pub enum Merged {
-    Unlike,
-    Is(u64),
-}
-
 // The merge of the cells of two numbers. A number that came and is held already stays.
-fn merge_numbers(x: u64, y: u64) -> Merged
+fn merge_numbers(x: u64, y: u64) -> Option<u64>
     ensures { of_merged result ≡ merge_cells (decoded_cell x) (decoded_cell y) }
 {
     if x == y {
-        return Merged::Is(x);
+        return Some(x);
     }
-    let merged = merge_cells::merge(merge_cells::decode(x), merge_cells::decode(y));
-    let Operand::Is(c) = merged else {
-        return Merged::Unlike;
-    };
-    let z = merge_cells::encode(c);
-    Merged::Is(z)
+    let merged = merge_cells::merge(merge_cells::decode(x), merge_cells::decode(y))?;
+    Some(merge_cells::encode(merged))
 }
 
 // The cells `came` are merged one by one into those of `held`, which are as many; whether all can be merged.
@@ -125,14 +94,12 @@ fn merge_cells(held: &mut [u64], came: &[u64]) -> bool
     requires { length held.old ≡ length came.now }
     ensures { of_cells result held.new ≡ merge_lists merge_cells (decoded_cells held.old) (decoded_cells came.now) }
 {
-    let mut i = 0;
-    while i < came.len() {
+    for i in 0..came.len() {
         let merged = merge_numbers(held[i], came[i]);
-        let Merged::Is(x) = merged else {
+        let Some(x) = merged else {
             return false;
         };
         held[i] = x;
-        i += 1;
     }
     true
 }
@@ -143,14 +110,12 @@ fn merge_blocks(held: &mut [u64], came: &[u64], code: &[u32; 5131]) -> bool
     ensures { of_blocks (sizes_of code.now) result held.new ≡ merge_lists (merge_lists merge_cells) (blocks_of (sizes_of code.now) (decoded_cells held.old)) (blocks_of (sizes_of code.now) (decoded_cells came.now)) }
 {
     let count = machine_state::count_blocks(code);
-    let mut k = 0;
-    while k < count {
+    for k in 0..count {
         let low = k * 16;
         let high = low + machine_state::size_of(code, k);
         if !merge_cells(&mut held[low..high], &came[low..high]) {
             return false;
         }
-        k += 1;
     }
     true
 }
@@ -174,7 +139,7 @@ fn put(row: &mut [u64], code: &[u32; 5131], w: Way)
     row[3] = w.words;
     row[4] = accu;
     let first = 5 + s.free;
-    encode_stack(stack, s.free, &mut row[first..69]);
+    encode_cells(&stack, s.free, &mut row[first..69]);
     encode_blocks(blocks, &mut row[69..197], code);
 }
 
@@ -215,7 +180,7 @@ fn merge_states(row: &mut [u64], came: &[u64], code: &[u32; 5131]) -> bool
         return false;
     }
     let merged = merge_numbers(row[4], came[4]);
-    let Merged::Is(accu) = merged else {
+    let Some(accu) = merged else {
         return false;
     };
     row[4] = accu;
@@ -235,8 +200,8 @@ fn meet(row: &mut [u64], came: &[u64], code: &[u32; 5131])
         row[0] = 2;
         return;
     }
-    let cycles = bound_figures::larger(row[2], came[2]);
-    let words = bound_figures::larger(row[3], came[3]);
+    let cycles = row[2].max(came[2]);
+    let words = row[3].max(came[3]);
     row[2] = cycles;
     row[3] = words;
 }

@@ -1,5 +1,6 @@
 -- Laws of an address that is carried out: by what its step leads to, what the code leaves is what the definition goes on with. Assumes
 -- nothing.
+use Rattle.std.specs.Prelude.{Err, Ok, None, Option, Some}
 use Prim.Native.Nat.{ℕ, suc, ◌+◌, ◌-◌, ◌<◌, ◌≤◌, max}
 use mathlib.Core.Path.{◌≡◌, refl, sym, ap, ap₂, subst, ◌∙◌}
 use mathlib.Core.Bool.{Bool, false}
@@ -9,7 +10,6 @@ use native.Mathlib.Omega.{arith}
 use lib.ListN.{length, length-set}
 use Rattle.refusals.specs.declared.Refusal.{Refusal}
 use Rattle.refusals.specs.declared.Refusal.TheVariants.{Stuck}
-use Rattle.refusals.specs.declared.Acceptance.TheVariants.{Accepted, Refused}
 use Rattle.cells.specs.Try.{Try, stuck, done}
 use Rattle.cells.specs.declared.Cell.{Cell}
 use Rattle.cells.specs.Cells.{unknown}
@@ -26,8 +26,6 @@ use Rattle.bound_theory.specs.Tree.{Report, Verdict, refused}
 use Rattle.machine_step.specs.declared.Price as steps
 use Rattle.machine_step.specs.declared.Next as leads-to
 use Rattle.machine_step.specs.declared.Next.TheVariants as leads
-use Rattle.machine_step.specs.declared.Update.{Update}
-use Rattle.machine_step.specs.declared.Update.TheVariants as change
 use Rattle.machine_step.specs.HeldStep.{of_price, SmallPrice, of_next, Differs}
 use Rattle.bound_figures.specs.declared.Found.{Found}
 use Rattle.bound_figures.specs.HeldFigures.{accepted_as, encode, refused_as}
@@ -50,11 +48,11 @@ found-is f a b c d e g = rw (← a, ← b, ← c, ← d, ← e, ← g) refl
 
 -- what the code's figures are, after an address of a stack of height h is reached
 abbrev pub Reached : Found → ℕ → Found → Type 0
-Reached f h g = (g.verdict ≡ Accepted) × (g.used ≡ suc f.used) × (g.cycles ≡ f.cycles) × (g.words ≡ f.words) × (g.depth ≡ max f.depth h) × (g.path ≡ 1)
+Reached f h g = (g.verdict ≡ Ok tt) × (g.used ≡ suc f.used) × (g.cycles ≡ f.cycles) × (g.words ≡ f.words) × (g.depth ≡ max f.depth h) × (g.path ≡ 1)
 
 -- and after a way of the sums k and l has ended
 abbrev pub Ended : Found → ℕ → ℕ → Found → Type 0
-Ended f k l g = (g.verdict ≡ Accepted) × (g.used ≡ f.used) × (g.cycles ≡ max f.cycles k) × (g.words ≡ max f.words l) × (g.depth ≡ f.depth) × (g.path ≡ 1)
+Ended f k l g = (g.verdict ≡ Ok tt) × (g.used ≡ f.used) × (g.cycles ≡ max f.cycles k) × (g.words ≡ max f.words l) × (g.depth ≡ f.depth) × (g.path ≡ 1)
 
 pub reached-as : (f g : Found) (q : Report) (s : State) (h : ℕ) → Reached f h g → h ≡ height s → f ≡ accepted_as q → g ≡ accepted_as (reach s q)
 unfolding accepted_as reach encode
@@ -89,7 +87,7 @@ pub refused-figures : (j : ℕ) (x : Refusal) (g : Found) → g ≡ refused_as x
 unfolding refused_as
 refused-figures j x g e = rw e (record { used = omega arith; cycles = omega arith; words = omega arith; depth = omega arith })
 
-pub refused-verdict : (x : Refusal) (g : Found) → g ≡ refused_as x 0 → g.verdict ≡ Refused x
+pub refused-verdict : (x : Refusal) (g : Found) → g ≡ refused_as x 0 → g.verdict ≡ Err x
 unfolding refused_as
 refused-verdict x g e = ap (λ (f : Found). f.verdict) e
 
@@ -196,9 +194,9 @@ pub leads-opens : (x : leads-to.Next) (p q : steps.Price) (a : ℕ) (s : State) 
 unfolding of_next
 leads-opens x p q a s f u e g h = ap (λ (y : leads-to.Next). of_next y s) (sym e) ∙ h ∙ ap f g
 
-pub same-fields : (x : Update) (fs gs : List Cell) → Differs x fs gs → length fs ≡ 128 → length gs ≡ 128
-same-fields change.Nothing fs gs e l = ap length e ∙ l
-same-fields (change.Field i c) fs gs e l = ap length e.1 ∙ length-set fs i c ∙ l
+pub same-fields : (x : Option (ℕ × Cell)) (fs gs : List Cell) → Differs x fs gs → length fs ≡ 128 → length gs ≡ 128
+same-fields None fs gs e l = ap length e ∙ l
+same-fields (Some (i, c)) fs gs e l = ap length e.1 ∙ length-set fs i c ∙ l
 
 pub way-height : (ns : List ℕ) (w : Way) → WellFormed w.state → 64 - w.state.free ≡ height (whole ns w.blocks w.state)
 unfolding height whole reblock

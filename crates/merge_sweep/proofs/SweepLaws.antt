@@ -1,19 +1,17 @@
 -- Laws of the pass over all addresses: where it begins, one address more, and where it ends. Assumes nothing.
+use Rattle.std.specs.Prelude.{Err, Ok, Result, ⊤}
 use Prim.Native.Nat.{ℕ, suc, ◌+◌, ◌*◌, ◌-◌, ◌<◌, ◌≤◌}
 use mathlib.Core.Path.{◌≡◌, refl, sym, ap, ap₂, subst, ◌∙◌}
 use mathlib.Core.Bool.{Bool, true, false, cond}
 use mathlib.Core.List.{List}
 use native.Mathlib.Omega.{arith}
-use lib.Dec.{eqb, ltb}
-use lib.ListN.{length, get_or, drop, set, replicate, length-set}
-use lib.Seq.{get_or-take, get_or-drop, get_or-set_same, get_or-set_other}
-use borrow.Author.Tests.{ltb-true, ltb-false}
+use lib.Dec.{eqb}
+use lib.ListN.{length, get_or, drop, replicate}
+use lib.Seq.{get_or-take, get_or-drop}
 use Rattle.refusals.specs.declared.Refusal.{Refusal}
-use Rattle.refusals.specs.declared.Acceptance as code-verdict
-use Rattle.refusals.specs.declared.Acceptance.TheVariants.{Accepted, Refused}
 use Rattle.cells.specs.declared.Cell.{Cell}
 use Rattle.cells.specs.Cells.{unknown}
-use Rattle.machine.specs.Machine.{State, Code, step, reblock}
+use Rattle.machine.specs.Machine.{Code, step, reblock}
 use Rattle.machine_state.specs.declared.State as code
 use Rattle.machine_state.specs.HeldState.{WellFormed, whole}
 use Rattle.bound_theory.specs.Tree.{Report, Verdict, accepted}
@@ -28,7 +26,7 @@ use Rattle.merge_origins.proofs.KeptLaws.{zeros}
 use Rattle.merge_rows.specs.declared.Way.{Way}
 use Rattle.merge_sweep.specs.declared.Pass.{Pass}
 use Rattle.merge_rows.specs.HeldRows.{Numeric, Rows, arrival_of, part, slot_at, join_at, with, waiting}
-use Rattle.merge_sweep.specs.HeldPass.{Empty, Spent, most, Figures, Ready, Agrees, Moved, stopped, moved}
+use Rattle.merge_sweep.specs.HeldPass.{Empty, Spent, most, Ready, Agrees, Moved, stopped, moved}
 use Rattle.merge_rows.proofs.RowLaws.{slot-empty}
 use Rattle.merge_sweep.proofs.PassLaws.{arrived, same_test}
 use Rattle.merge_rows.proofs.PartLaws.{comes-to}
@@ -50,7 +48,7 @@ pub record Going (c : Code) (ns : List ℕ) (first n : ℕ) (v : Verdict) (o : O
 -- ---- an empty table
 
 -- a row without a mark is empty
-unmarked : (ns : List ℕ) (first : ℕ) (rs : List ℕ) (b : ℕ) → get_or rs (197 * b) 0 ≡ 0 → slot_at ns first rs b ≡ empty
+pub unmarked : (ns : List ℕ) (first : ℕ) (rs : List ℕ) (b : ℕ) → get_or rs (197 * b) 0 ≡ 0 → slot_at ns first rs b ≡ empty
 unfolding slot_at
 unmarked ns first rs b e =
     let at : 197 * b + 0 ≡ 197 * b = omega arith in
@@ -60,32 +58,12 @@ unmarked ns first rs b e =
 pub all-empty : (ns : List ℕ) (first n m : ℕ) → Empty ns first n (replicate m 0)
 all-empty ns first n m b h = unmarked ns first (replicate m 0) b (zeros m (197 * b))
 
--- ---- the rows emptied
-
--- those below j have no mark
-pub record Clearing (rs : List ℕ) (j : ℕ) : Type 0 where
-  pub rows : Rows rs
-  pub marks : (b : ℕ) → b < j → get_or rs (197 * b) 0 ≡ 0
-
-pub clears : {rs : List ℕ} {j : ℕ} → Clearing rs j → j < 1025 → Clearing (set rs (197 * j) 0) (j + 1)
-clears {rs} {j} c h = record { rows = length-set rs (197 * j) 0 ∙ c.rows; marks = λ b k. by b k (ltb b j) refl }
-  where
-    by : (b : ℕ) → b < j + 1 → (t : Bool) → ltb b j ≡ t → get_or (set rs (197 * j) 0) (197 * b) 0 ≡ 0
-    by b k true e = let l = ltb-true b j e in get_or-set_other rs (197 * j) (197 * b) 0 0 (λ f. omega arith) ∙ c.marks b l
-    by b k false e =
-        let l = ltb-false b j e in
-        let same : 197 * b ≡ 197 * j = omega arith in
-        ap (λ (i : ℕ). get_or (set rs (197 * j) 0) i 0) same ∙ get_or-set_same rs (197 * j) 0 0 (omega (arith, c.rows))
-
-pub cleared : {rs : List ℕ} {j n : ℕ} (ns : List ℕ) (first : ℕ) → Clearing rs j → n ≤ j → Empty ns first n rs
-cleared {rs} ns first c h b k = unmarked ns first rs b (c.marks b (omega arith))
-
 -- ---- where it begins
 
 -- the way from the start, and the pass with it
 abbrev pub begun : code.State → List Cell → Pass
 begun s bl = record {
-  found = record { verdict = Accepted; used = 0; cycles = 0; words = 0; depth = 0; path = 1 };
+  found = record { verdict = Ok tt; used = 0; cycles = 0; words = 0; depth = 0; path = 1 };
   here = true;
   way = record { state = s; blocks = bl; cycles = 0; words = 0 };
 }
@@ -185,10 +163,10 @@ module _ {c : Code} {ns : List ℕ} {first n : ℕ} {v : Verdict} {o : Origins} 
       let m : n - j ≡ suc (n - (j + 1)) = omega arith in
       sym (ap (λ (i : ℕ). sweep (step c unknown) i (first + j) g.tab g.report) m) ∙ g.rest
 
-  never : {A : Type 0} (x : Refusal) → r.found.verdict ≡ Accepted → r.found.verdict ≡ Refused x → A
+  never : {A : Type 0} (x : Refusal) → r.found.verdict ≡ Ok tt → r.found.verdict ≡ Err x → A
   never x e h = let z : ◌≡◌ {A = ℕ} 0 1 = cc in absurd (omega arith)
 
-  pub goes_on : (ks' : List ℕ) → Ready ns first n (j + 1) rs' r → r.found.verdict ≡ Accepted → Moved ns first n (j + 1) there onto rs' r → Goals ks' → Keeps first ks' left → Going c ns first n v o rs' ks' (j + 1) r
+  pub goes_on : (ks' : List ℕ) → Ready ns first n (j + 1) rs' r → r.found.verdict ≡ Ok tt → Moved ns first n (j + 1) there onto rs' r → Goals ks' → Keeps first ks' left → Going c ns first n v o rs' ks' (j + 1) r
   goes_on ks' ready e (stopped x h k) goals keeps = never x e h
   goes_on ks' ready e (moved q f k a) goals keeps = record {
     ready = ready;
@@ -208,22 +186,22 @@ module _ {c : Code} {ns : List ℕ} {first n : ℕ} {v : Verdict} {o : Origins} 
         ap (λ (i : ℕ). beside (step c unknown) (n - (j + 1)) i onto left) at ∙ marks-ahead;
   }
 
-  accepted-verdict : (q : Report) → r.found ≡ accepted_as q → r.found.verdict ≡ Accepted
+  accepted-verdict : (q : Report) → r.found ≡ accepted_as q → r.found.verdict ≡ Ok tt
   unfolding accepted_as
   accepted-verdict q e = ap (λ (f : Found). f.verdict) e
 
-  pub ends : (x : Refusal) → r.found.verdict ≡ Refused x → Moved ns first n (j + 1) there onto rs' r → Shows r.found v
+  pub ends : (x : Refusal) → r.found.verdict ≡ Err x → Moved ns first n (j + 1) there onto rs' r → Shows r.found v
   ends y e (stopped x h k) = subst (Shows r.found) (sym (k _) ∙ ahead) h
   ends y e (moved q f k a) = never y (accepted-verdict q f) e
 
 -- ---- where it ends
 
 -- an answer that shows a refusal shows no report
-pub not-accepted : {A : Type 0} (f : Found) (x : Refusal) (v : Verdict) (q : Report) → f.verdict ≡ Refused x → Shows f v → v ≡ accepted q → A
+pub not-accepted : {A : Type 0} (f : Found) (x : Refusal) (v : Verdict) (q : Report) → f.verdict ≡ Err x → Shows f v → v ≡ accepted q → A
 unfolding accepted_as
 not-accepted f x v q e s h =
     let k : f ≡ accepted_as q = subst (Shows f) h s in
-    let z : ◌≡◌ {A = code-verdict.Acceptance} Accepted (Refused x) = sym (ap (λ (f : Found). f.verdict) k) ∙ e in
+    let z : ◌≡◌ {A = Result ⊤ Refusal} (Ok tt) (Err x) = sym (ap (λ (f : Found). f.verdict) k) ∙ e in
     let y : ◌≡◌ {A = ℕ} 0 1 = cc in
     absurd (omega arith)
 
@@ -238,6 +216,3 @@ unfolding sweep
 finishes {c} {first = first} {n = n} {j = j} {p = p} g h =
     let m : n - j ≡ 0 = omega arith in
     subst (Shows p.found) (sym (ap (λ (i : ℕ). sweep (step c unknown) i (first + j) g.tab g.report) m) ∙ g.rest) g.found
-
-pub figures-all : (j : ℕ) (f : Found) → j ≤ 1025 → Figures j f → Figures 1025 f
-figures-all j f h i = record { used = omega (arith, i.used); cycles = omega (arith, i.cycles); words = omega (arith, i.words); depth = i.depth }

@@ -1,9 +1,7 @@
 -- One address of the pass: what is asked before it, and what holds after it.
-use Rattle.std.specs.Prelude.{◌+◌, ◌*◌, ◌≤◌, ◌<◌, ◌≡◌}
+use Rattle.std.specs.Prelude.{◌+◌, ◌*◌, ◌≤◌, ◌<◌, ◌≡◌, Err}
 use Rattle.refusals.specs.Library.{ℕ, Bool, true, false, List}
 use Rattle.bound_theory.specs.Terms.{Refusal, Report, Verdict, refused, Price}
-use Rattle.refusals.specs.declared.Acceptance.TheVariants.{Refused}
-use Rattle.machine_step.specs.declared.Price as code
 use Rattle.merge_theory.specs.Merge.{Slot, empty, unlike, held, Table, slot}
 use Rattle.bound_figures.specs.declared.Found.{Found}
 use Rattle.bound_figures.specs.HeldFigures.{accepted_as}
@@ -65,7 +63,7 @@ Agrees ns first n j tab rs here w = (b : ℕ) → j ≤ b → b < n → slot (ta
 -- the address before that of row j was gone through, and v says how the definition goes on there: it is refused, or goes on with the same
 -- figures and the table `onto`, which has what the rows from j on hold
 pub data Moved (ns : List ℕ) (first n j : ℕ) (v : (Table → Report → Verdict) → Verdict) (onto : Table) (rs : List ℕ) (r : Pass) : Type 0 where
-  stopped : (x : Refusal) → r.found.verdict ≡ Refused x → ((rest : Table → Report → Verdict) → v rest ≡ refused x) → Moved ns first n j v onto rs r
+  stopped : (x : Refusal) → r.found.verdict ≡ Err x → ((rest : Table → Report → Verdict) → v rest ≡ refused x) → Moved ns first n j v onto rs r
   moved : (q : Report) → r.found ≡ accepted_as q → ((rest : Table → Report → Verdict) → v rest ≡ rest onto q) → Agrees ns first n j onto rs r.here r.way
       → Moved ns first n j v onto rs r
 

@@ -1,7 +1,7 @@
 // The merging bound: one pass over the code's addresses in rising order, which merges the states where ways meet. The meaning is in specs/.
 #![tactic(auto)]
 
-ghost use Rattle.std.specs.Prelude.{◌≡◌, List, true, ℕ, suc, ◌+◌, ◌<◌, ◌≤◌, max, length};
+ghost use Rattle.std.specs.Prelude.{◌≡◌, List, true, ℕ, suc, ◌+◌, ◌<◌, ◌≤◌, max, length, Ok};
 ghost use Rattle.cells.specs.HeldConfined.{Kept};
 ghost use Rattle.cells.specs.Cells.{unknown};
 ghost use Rattle.machine.specs.Machine.{step};
@@ -11,7 +11,6 @@ ghost use Rattle.machine_state.specs.HeldState.{WellFormed, whole};
 ghost use Rattle.bound_theory.specs.Tree.{Report, accepted};
 ghost use Rattle.machine_step.specs.HeldStep.{SmallPrice};
 ghost use Rattle.bound_figures.specs.HeldFigures.{accepted_as, Shows};
-ghost use Rattle.refusals.specs.declared.Acceptance.TheVariants.{Accepted};
 ghost use Rattle.merge_theory.specs.Merge.{Table, slot, carry, visit, span, only, merged};
 ghost use Rattle.merge_theory.specs.Ways.{sent, sends};
 ghost use Rattle.merge_way.specs.Way.{Origins, marked, departs, nowhence};
@@ -25,7 +24,7 @@ use cells::Cell;
 use machine_state::State;
 use machine_step::{Next, Price};
 use merge_rows::Way;
-use refusals::{Acceptance, Refusal};
+use refusals::Refusal;
 
 // A way goes on from the address of row `j`: whether to the next. To any other it is sent.
 fn onward(rows: &mut [u64], code: &[u32; 5131], j: usize, w: Way) -> bool
@@ -120,11 +119,11 @@ fn paid(w: Way, state: State, blocks: [Cell; 128], p: Price) -> Way
 // An address more is reached, where the stack's height is `h`.
 fn reached(f: Found, h: usize) -> Found
     requires { (f.used ≤ 1025) × (h ≤ 64) }
-    ensures { (result.verdict ≡ Accepted) × (result.used ≡ suc f.used) × (result.cycles ≡ f.cycles) × (result.words ≡ f.words) × (result.depth ≡ max f.depth h) × (result.path ≡ 1) }
+    ensures { (result.verdict ≡ Ok tt) × (result.used ≡ suc f.used) × (result.cycles ≡ f.cycles) × (result.words ≡ f.words) × (result.depth ≡ max f.depth h) × (result.path ≡ 1) }
 {
-    let depth = bound_figures::larger(f.depth, h as u64);
+    let depth = f.depth.max(h as u64);
     Found {
-        verdict: Acceptance::Accepted,
+        verdict: Ok(()),
         used: f.used + 1,
         cycles: f.cycles,
         words: f.words,
@@ -135,12 +134,12 @@ fn reached(f: Found, h: usize) -> Found
 
 // A way ends in STOP.
 fn ended(f: Found, w: Way) -> Found
-    ensures { (result.verdict ≡ Accepted) × (result.used ≡ f.used) × (result.cycles ≡ max f.cycles w.cycles) × (result.words ≡ max f.words w.words) × (result.depth ≡ f.depth) × (result.path ≡ 1) }
+    ensures { (result.verdict ≡ Ok tt) × (result.used ≡ f.used) × (result.cycles ≡ max f.cycles w.cycles) × (result.words ≡ max f.words w.words) × (result.depth ≡ f.depth) × (result.path ≡ 1) }
 {
-    let cycles = bound_figures::larger(f.cycles, w.cycles);
-    let words = bound_figures::larger(f.words, w.words);
+    let cycles = f.cycles.max(w.cycles);
+    let words = f.words.max(w.words);
     Found {
-        verdict: Acceptance::Accepted,
+        verdict: Ok(()),
         used: f.used,
         cycles: cycles,
         words: words,
@@ -246,10 +245,8 @@ fn clear(rows: &mut [u64], code: &[u32; 5131])
     ensures { Empty (sizes_of code.now) (first_address_of code.now) (rows_of code.now) rows.new }
 {
     let count = code[1] as usize + 1;
-    let mut j = 0;
-    while j < count {
+    for j in 0..count {
         rows[197 * j] = 0;
-        j += 1;
     }
 }
 
@@ -272,7 +269,7 @@ fn sweep_by(
     ensures keeps { (q : Report) → merged (program_of code.now) (whole (sizes_of code.now) blocks start) ≡ accepted q → Keeps (first_address_of code.now) kept.new (beside (step (program_of code.now) unknown) (span (program_of code.now) (whole (sizes_of code.now) blocks start)) start.at (only (whole (sizes_of code.now) blocks start)) nowhence) }
 {
     let n = code[1] as usize + 1;
-    let mut j = start.at - code[0] as usize;
+    let from = start.at - code[0] as usize;
     let way = Way {
         state: start,
         blocks: blocks,
@@ -280,7 +277,7 @@ fn sweep_by(
         words: 0,
     };
     let nothing = Found {
-        verdict: Acceptance::Accepted,
+        verdict: Ok(()),
         used: 0,
         cycles: 0,
         words: 0,
@@ -292,14 +289,13 @@ fn sweep_by(
         here: true,
         way: way,
     };
-    while j < n {
+    for j in from..n {
         p = visit(code, rows, kept, j, p);
         let f = p.found;
         let verdict = f.verdict;
-        let Acceptance::Accepted = verdict else {
+        let Ok(()) = verdict else {
             return f;
         };
-        j += 1;
     }
     p.found
 }

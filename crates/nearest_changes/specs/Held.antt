@@ -1,30 +1,22 @@
 -- What the code's values stand for.
-use Rattle.std.specs.Prelude.{◌+◌, ◌-◌, ◌/◌, ◌%◌, ◌+ℤ◌, ◌-ℤ◌, ◌∷◌, ◌≡◌}
+use Rattle.std.specs.Prelude.{◌+◌, ◌-◌, ◌/◌, ◌%◌, ◌+ℤ◌, ◌-ℤ◌, ◌∷◌, ◌≡◌, None, Option, Some}
 use Rattle.refusals.specs.Library.{ℕ, eqb, ℤ, pos, cond, List, []}
 use Rattle.machine.specs.Terms.{Try, done, stuck, Cell, State}
 use Rattle.nearest_changes.specs.declared.Position.{Position}
-use Rattle.nearest_changes.specs.declared.Single.{Single}
-use Rattle.nearest_changes.specs.declared.Single.TheVariants.{Number, Other}
-use Rattle.nearest_changes.specs.declared.Trial.{Trial}
-use Rattle.nearest_changes.specs.declared.Trial.TheVariants.{Of, Nothing}
 use Rattle.nearest_changes.specs.declared.Change.{Change}
 use Rattle.nearest_changes.specs.Places.{cell_at, position_of}
 use Rattle.nearest_changes.specs.Changes.{number_at, change_to}
 
 -- the number that is held, or stuck
-abbrev pub of_single : Single → Try ℤ
-of_single (Number n) = done n
-of_single Other = stuck
-
 -- the start has a cell at p
 pub record Present (p : Position) (s : State) : Type 0 where
   pub cell : Cell
   pub there : cell_at p s ≡ done cell
 
 -- what a trial changes
-abbrev pub of_trial : Trial → List Change
-of_trial (Of c) = c ∷ []
-of_trial Nothing = []
+abbrev pub of_trial : Option Change → List Change
+of_trial (Some c) = c ∷ []
+of_trial None = []
 
 -- v changed by n: downwards in the first of two trials, upwards in the second
 abbrev pub shift : ℕ → ℕ → ℤ → ℤ

@@ -7,10 +7,10 @@ ghost use Rattle.machine_state.specs.HeldState.{view, WellFormed, blocks_of, who
 ghost use Rattle.nearest_changes.specs.Single.{single};
 ghost use Rattle.nearest_changes.specs.Places.{replace_at, position_of};
 ghost use Rattle.nearest_changes.specs.Changes.{number_at};
-ghost use Rattle.nearest_changes.specs.Held.{of_single, of_trial, shift, trial_of, Present};
+ghost use Rattle.nearest_changes.specs.Held.{of_trial, shift, trial_of, Present};
 
 use cells::{Cell, Value};
-use machine_state::{Slot, State};
+use machine_state::State;
 
 // Where a cell of the start stands: ACCU, an entry of the stack, a field of a block.
 #[derive(Clone, Copy)]
@@ -27,33 +27,19 @@ pub struct Change {
     pub value: i32,
 }
 
-// What a cell holds: one number, or anything else.
-#[derive(Clone, Copy)]
-pub enum Single {
-    Number(i32),
-    Other,
-}
-
-// What a trial changes: one cell, or none.
-#[derive(Clone, Copy)]
-pub enum Trial {
-    Of(Change),
-    Nothing,
-}
-
 // The number of a cell that holds one.
-fn single_of(c: Cell) -> Single
-    ensures { of_single result ≡ single c }
+fn single_of(c: Cell) -> Option<i32>
+    ensures { result ≡ single c }
 {
     let value = c.value;
     match value {
         Value::Range(low, more) => {
             if more == 0 {
-                return Single::Number(low);
+                return Some(low);
             }
-            Single::Other
+            None
         }
-        Value::Handle(_) => Single::Other,
+        Value::Handle(_) => None,
     }
 }
 
@@ -73,24 +59,24 @@ pub fn position_of(k: usize) -> Position
 }
 
 // The number of the cell at p, where the start has one there and it holds one number.
-pub fn number_at(code: &[u32; 5131], start: State, blocks: [Cell; 128], p: Position) -> Single
+pub fn number_at(code: &[u32; 5131], start: State, blocks: [Cell; 128], p: Position) -> Option<i32>
     requires { IsProgram code.now × WellFormed start }
-    ensures { of_single result ≡ number_at p (whole (sizes_of code.now) blocks start) }
+    ensures { result ≡ number_at p (whole (sizes_of code.now) blocks start) }
 {
     match p {
         Position::Accu => single_of(start.accu),
         Position::Entry(n) => {
             let free = start.free;
             if 64 - free <= n {
-                return Single::Other;
+                return None;
             }
             let entry = free + n;
             single_of(start.stack[entry])
         }
         Position::Field(k, n) => {
             let field = machine_state::slot_of(code, cells::handle(k), n);
-            let Slot::At(j) = field else {
-                return Single::Other;
+            let Some(j) = field else {
+                return None;
             };
             single_of(blocks[j])
         }
@@ -144,7 +130,7 @@ pub fn with_field(
         Position::Entry(_) => blocks,
         Position::Field(k, n) => {
             let field = machine_state::slot_of(code, cells::handle(k), n);
-            let Slot::At(j) = field else {
+            let Some(j) = field else {
                 return blocks;
             };
             blocks[j] = c;
@@ -166,21 +152,21 @@ fn shifted(v: i32, n: usize, d: usize) -> i64
 
 // Trial j of a start: by 1, by 2 and on to 64, each of all places in the file's order, each downwards and then upwards. It changes nothing
 // where the start has no single number there, and where the value would be outside the range of numbers.
-pub fn trial_at(code: &[u32; 5131], start: State, blocks: [Cell; 128], j: usize) -> Trial
+pub fn trial_at(code: &[u32; 5131], start: State, blocks: [Cell; 128], j: usize) -> Option<Change>
     requires { IsProgram code.now × WellFormed start × (j < 24704) }
     ensures { of_trial result ≡ trial_of (whole (sizes_of code.now) blocks start) j }
 {
     let p = position_of(j / 2 % 193);
     let held = number_at(code, start, blocks, p);
-    let Single::Number(n) = held else {
-        return Trial::Nothing;
+    let Some(n) = held else {
+        return None;
     };
     let amount = j / 2 / 193 + 1;
     let v = shifted(n, amount, j % 2);
     if !numbers::within(numbers::number_range(), v) {
-        return Trial::Nothing;
+        return None;
     }
-    Trial::Of(Change {
+    Some(Change {
         place: p,
         value: v as i32,
     })

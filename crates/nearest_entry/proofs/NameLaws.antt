@@ -1,5 +1,6 @@
 -- Laws of the cells' names: those of lines 10 and 12 are the names of the places of the start, and a place is known by its name.
 -- Assumes nothing.
+use Rattle.std.specs.Prelude.{Some}
 use Prim.Native.Nat.{ℕ, zero, suc, ◌+◌, ◌-◌, ◌<◌, ◌≤◌}
 use mathlib.Core.Path.{◌≡◌, refl, sym, ap, ap₂, ◌∙◌}
 use mathlib.Core.Bool.{Bool, true, false, cond, not, ◌&&◌, false≢true}
@@ -10,7 +11,6 @@ use lib.IntN.{pos}
 use lib.ListN.{length, get_or, take, drop, length-drop, length-map}
 use lib.Seq.{length-take-le}
 use Rattle.text.specs.Text.{bytes, is_empty, equals, Line}
-use Rattle.text_decimals.specs.declared.Numeral.TheVariants.{Number as number}
 use Rattle.text_decimals.specs.Decimal.{numeral, decimal}
 use Rattle.text.proofs.TextLaws.{and_right, equals-path}
 use Rattle.text_decimals.proofs.DecimalLaws.{decimal-read}
@@ -35,7 +35,7 @@ use Rattle.nearest_entry.specs.Answers.{name_of}
 -- ---- a place is known by its name
 
 decimal-same : (m n : ℕ) → decimal m ≡ decimal n → m ≡ n
-decimal-same m n e = let q : number (pos m) ≡ number (pos n) = sym (decimal-read m) ∙ ap numeral e ∙ decimal-read n in cc
+decimal-same m n e = let q : Some (pos m) ≡ Some (pos n) = sym (decimal-read m) ∙ ap numeral e ∙ decimal-read n in cc
 
 -- the first byte of a name
 first_byte : {w v : List ℕ} → w ≡ v → get_or w 0 0 ≡ get_or v 0 0

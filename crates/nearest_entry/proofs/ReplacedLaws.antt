@@ -1,4 +1,5 @@
 -- Laws of a file with one value of a start or block cell replaced: its lines, that it passes the rows, and its routine. Assumes nothing.
+use Rattle.std.specs.Prelude.{None}
 use Prim.Native.Nat.{ℕ, zero, suc, ◌+◌, ◌-◌, ◌<◌, ◌≤◌}
 use mathlib.Core.Path.{◌≡◌, refl, sym, ap, ap₂, subst, ◌∙◌}
 use mathlib.Core.Bool.{Bool, true, false, cond, not, ◌&&◌, false≢true}
@@ -26,7 +27,6 @@ use Rattle.file_format.specs.declared.Role.{Role}
 use Rattle.file_format.specs.declared.Role.TheVariants.{Names as names, Values as values, Code as code, Answer as answer}
 use Rattle.file_format.specs.declared.Row.{Row}
 use Rattle.file_format.specs.declared.Row.TheVariants.{Layout as Layout-row, Range as range-row, Name as name-row, Price as price-row, Target as target_row, Forward as forward-row, Known as known-row}
-use Rattle.file_format.specs.declared.RefusedLine.TheVariants.{Nowhere as nowhere}
 use Rattle.file_format.specs.Layout.{layout, body, body_roles, roles, list, section_place, column_place, is_role, holds_cells, text_at, listed}
 use Rattle.file_format.specs.Rows.{known_of, span_of, spanned, hashed, cell_word, is_cell, cell_in_range, cell_present, block_sizes, total, column_laid_out, column_in_range, on_cells, on_code, values_laid_out, is_laid_out, in_range, named, priced, reaches, forward, test, refused_line, Passes}
 use Rattle.file_format.specs.Routine.{inside, price_list, code_in, cell_of, cells_of, blocks_in_line, start_of, Routine, routine_of, routine, text_limit, read_bound}
@@ -240,7 +240,7 @@ module _ {t u : Role → Line → Bool} (same : (r : Role) (l : Line) → u r l 
   covered-set (suc k) l e (passed {r} {l = m} p c) = passed (same r m ∙ p) (covered-set k l e c)
 
 -- a row lets the lines through where it let them through before, and lets the new line through
-row-set : (row : Row) (ls : List Line) (k : ℕ) (l : Line) → Framed ls (set ls k l) → refused_line row ls ≡ nowhere → test row (set ls k l) (get_or (roles ls) k (code 0)) l ≡ true → refused_line row (set ls k l) ≡ nowhere
+row-set : (row : Row) (ls : List Line) (k : ℕ) (l : Line) → Framed ls (set ls k l) → refused_line row ls ≡ None → test row (set ls k l) (get_or (roles ls) k (code 0)) l ≡ true → refused_line row (set ls k l) ≡ None
 row-set row ls k l f e t =
     let ms = set ls k l in
     let c : Covered (test row ms) (roles ls) ms = covered-set (test-framed f row) k l t (row-covered row ls e) in

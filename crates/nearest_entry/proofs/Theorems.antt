@@ -1,7 +1,7 @@
 -- What is promised of the answers to a text. Assumes nothing.
 use mathlib.Core.Path.{◌≡◌, refl, sym, ap, ◌∙◌}
 use mathlib.Core.Logic.{◌⊎◌, inl, inr}
-use mathlib.Core.Option.{some, none}
+use Rattle.std.specs.Prelude.{Some as some, None as none}
 use mathlib.Core.List.{map}
 use Rattle.text.specs.Text.{bytes}
 use Rattle.cells.specs.Cells.{exactly}

@@ -9,15 +9,13 @@ ghost use Rattle.nearest_search.specs.Held.{of_sought};
 ghost use Rattle.nearest_entry.specs.Answers.{name_of, line_of, of_searched, nearest_answer};
 ghost use Rattle.nearest_entry.specs.Held.{search_in};
 
-use answers::Answer;
 use file_check::Reader;
 use file_reader::Routine;
 use nearest_changes::{Change, Position};
-use nearest_search::Sought;
-use refusals::Acceptance;
+use refusals::Refusal;
 
 // What the search says of the routine.
-fn sought(routine: Routine) -> Sought
+fn sought(routine: Routine) -> Result<Option<Change>, Refusal>
     requires { Limited routine }
     ensures { of_sought result ≡ search_in routine }
 {
@@ -62,36 +60,23 @@ fn put_change(out: &mut [u8], change: Change) -> usize
 }
 
 // The answer of the search to a routine.
-fn nearest_routine(routine: Routine, out: &mut [u8]) -> Answer
+fn nearest_routine(routine: Routine, out: &mut [u8]) -> Result<usize, Refusal>
     requires { Limited routine × (128 ≤ length out.old) }
     ensures value { result ≡ answer_of (of_searched (search_in routine)) }
     ensures out_after { out.new ≡ memory (of_searched (search_in routine)) out.old }
 {
-    let found = sought(routine);
-    match found {
-        Sought::Moves(change) => {
-            let n = put_change(out, change);
-            Answer::Reported(n)
-        }
-        Sought::Still => {
-            let n = text_decimals::put(out, 0, b"NONE\n");
-            Answer::Reported(n)
-        }
-        Sought::Refused(refusal) => Answer::Refused(refusal),
+    match sought(routine)? {
+        Some(change) => Ok(put_change(out, change)),
+        None => Ok(text_decimals::put(out, 0, b"NONE\n")),
     }
 }
 
 // The nearest number that moves the bound of a routine file: a cell and its new value in the lent memory, or `NONE`, or a refusal.
-pub fn nearest(text: &[u8], out: &mut [u8]) -> Answer
+pub fn nearest(text: &[u8], out: &mut [u8]) -> Result<usize, Refusal>
     ensures value { result ≡ answer_of (nearest_answer text.now (length out.old)) }
     ensures out_after { out.new ≡ memory (nearest_answer text.now (length out.old)) out.old }
 {
-    let verdict = file_entry::check(Reader::Bound, 128, out.len(), text);
-    match verdict {
-        Acceptance::Accepted => {
-            let routine = file_reader::routine_of(text);
-            nearest_routine(routine, out)
-        }
-        Acceptance::Refused(refusal) => Answer::Refused(refusal),
-    }
+    file_entry::check(Reader::Bound, 128, out.len(), text)?;
+    let routine = file_reader::routine_of(text);
+    nearest_routine(routine, out)
 }

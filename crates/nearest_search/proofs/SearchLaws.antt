@@ -1,17 +1,15 @@
 -- The trials of a search, one after the other. Assumes nothing.
+use Rattle.std.specs.Prelude.{Err, Ok}
 use Prim.Native.Nat.{ℕ, zero, suc, ◌+◌, ◌-◌, ◌<◌, ◌≤◌}
 use mathlib.Core.Path.{◌≡◌, refl, sym, ap, ◌∙◌}
 use mathlib.Core.Bool.{Bool, true, false, not}
 use mathlib.Core.List.{List, [], ◌∷◌, ◌++◌, flat_map}
-use mathlib.Core.Option.{Option, some, none}
+use Rattle.std.specs.Prelude.{Option, Some as some, None as none}
 use native.Mathlib.Omega.{arith}
-use lib.Dec.{eqb, ltb}
+use lib.Dec.{eqb}
 use lib.IntN.{ℤ}
-use lib.ListN.{length, get_or, set, drop, length-take}
-use lib.Seq.{get_or-set_same, get_or-set_other}
-use borrow.Author.Tests.{ltb-true, ltb-false}
+use lib.ListN.{length, get_or, drop, length-take}
 use Rattle.refusals.specs.declared.Refusal.{Refusal}
-use Rattle.refusals.specs.declared.Acceptance.TheVariants.{Accepted, Refused}
 use Rattle.cells.specs.Try.{stuck, done}
 use Rattle.cells.specs.Cells.{exactly, unknown}
 use Rattle.cells.specs.declared.Cell.{Cell}
@@ -36,14 +34,14 @@ use Rattle.nearest_search.specs.Held.{MovedAs, Reported, no_block, read_by, is_r
 -- ---- one bound
 
 -- other figures, or the same
-pub moved-cycles : (n : ℕ) (f : Found) (b : Bool) → f.verdict ≡ Accepted → not (eqb f.cycles n) ≡ b → MovedAs n f b
+pub moved-cycles : (n : ℕ) (f : Found) (b : Bool) → f.verdict ≡ Ok tt → not (eqb f.cycles n) ≡ b → MovedAs n f b
 unfolding moved accepted_as
 moved-cycles n f b e h (accepted q) s = sym h ∙ ap (λ (g : Found). not (eqb g.cycles n)) s
-moved-cycles n f b e h (refused x) s = let k : Accepted ≡ Refused x = sym e ∙ s in let z : ◌≡◌ {A = ℕ} 0 1 = cc in absurd (omega arith)
+moved-cycles n f b e h (refused x) s = let k : Ok tt ≡ Err x = sym e ∙ s in let z : ◌≡◌ {A = ℕ} 0 1 = cc in absurd (omega arith)
 
-pub moved-refused : (n : ℕ) (f : Found) (x : Refusal) → f.verdict ≡ Refused x → MovedAs n f true
+pub moved-refused : (n : ℕ) (f : Found) (x : Refusal) → f.verdict ≡ Err x → MovedAs n f true
 unfolding moved accepted_as
-moved-refused n f x e (accepted q) s = let k : Refused x ≡ Accepted = sym e ∙ ap (λ (g : Found). g.verdict) s in let z : ◌≡◌ {A = ℕ} 0 1 = cc in absurd (omega arith)
+moved-refused n f x e (accepted q) s = let k : Err x ≡ Ok tt = sym e ∙ ap (λ (g : Found). g.verdict) s in let z : ◌≡◌ {A = ℕ} 0 1 = cc in absurd (omega arith)
 moved-refused n f x e (refused y) s = refl
 
 -- the explorer's verdict on a state that is t
@@ -61,15 +59,6 @@ module _ (c : Code) (budget n : ℕ) (s : State) (p : Position) where
   pub read_some : (v : ℤ) (b : Bool) → done v ≡ number_at p s → b ≡ moved n (bound c budget (replace_at p no_block s)) → b ≡ is_read c budget n s p
   unfolding is_read read_by
   read_some v b h e = rw (← h) e
-
--- one place more
-pub one_more : (r : List Bool) (k : ℕ) (b : Bool) (f : ℕ → Bool) → k < length r → b ≡ f k → ((i : ℕ) → i < k → get_or r i false ≡ f i) →
-    (i : ℕ) → i < k + 1 → get_or (set r k b) i false ≡ f i
-one_more r k b f l e h i a = go (ltb i k) refl
-  where
-    go : (t : Bool) → ltb i k ≡ t → get_or (set r k b) i false ≡ f i
-    go true m = let x = ltb-true i k m in get_or-set_other r k i b false (λ z. omega arith) ∙ h i x
-    go false m = let x : i ≡ k = omega (arith, ltb-false i k m) in rw x (get_or-set_same r k b false l ∙ e)
 
 -- ---- one trial
 
@@ -138,28 +127,28 @@ trials-left ns fs s f g l moves = ap (first (λ x. moves (applied x (whole ns fs
 
 -- ---- the whole search
 
-pub searched : (c : Code) (budget : ℕ) (s : State) (f : Found) (o : Option Change) → Shows f (bound c budget s) → f.verdict ≡ Accepted →
+pub searched : (c : Code) (budget : ℕ) (s : State) (f : Found) (o : Option Change) → Shows f (bound c budget s) → f.verdict ≡ Ok tt →
     o ≡ nearest (λ t. moved f.cycles (bound c budget t)) s → found o ≡ search c budget s
 unfolding search search_from accepted_as
 searched c budget s f o = go (bound c budget s)
   where
-    go : (v : Verdict) → Shows f v → f.verdict ≡ Accepted → o ≡ nearest (λ t. moved f.cycles (bound c budget t)) s → found o ≡ search_from c budget s v
+    go : (v : Verdict) → Shows f v → f.verdict ≡ Ok tt → o ≡ nearest (λ t. moved f.cycles (bound c budget t)) s → found o ≡ search_from c budget s v
     go (accepted q) h e k = ap found (k ∙ ap (λ (g : Found). nearest (λ t. moved g.cycles (bound c budget t)) s) h)
-    go (refused r) h e k = let j : Accepted ≡ Refused r = sym e ∙ h in let z : ◌≡◌ {A = ℕ} 0 1 = cc in absurd (omega arith)
+    go (refused r) h e k = let j : Ok tt ≡ Err r = sym e ∙ h in let z : ◌≡◌ {A = ℕ} 0 1 = cc in absurd (omega arith)
 
 -- the verdict that an answer shows
-pub reported : (c : Code) (budget : ℕ) (s : State) (f : Found) → Shows f (bound c budget s) → f.verdict ≡ Accepted → Reported c budget f.cycles s
+pub reported : (c : Code) (budget : ℕ) (s : State) (f : Found) → Shows f (bound c budget s) → f.verdict ≡ Ok tt → Reported c budget f.cycles s
 unfolding accepted_as
 reported c budget s f h e = go (bound c budget s) refl h
   where
     go : (v : Verdict) → bound c budget s ≡ v → Shows f v → Reported c budget f.cycles s
     go (accepted q) a h = record { report = q; accepts = a; figure = ap (λ (g : Found). g.cycles) (sym h) }
-    go (refused r) a h = let j : Accepted ≡ Refused r = sym e ∙ h in let z : ◌≡◌ {A = ℕ} 0 1 = cc in absurd (omega arith)
+    go (refused r) a h = let j : Ok tt ≡ Err r = sym e ∙ h in let z : ◌≡◌ {A = ℕ} 0 1 = cc in absurd (omega arith)
 
-pub search-refused : (c : Code) (budget : ℕ) (s : State) (f : Found) (r : Refusal) → Shows f (bound c budget s) → f.verdict ≡ Refused r → refused_by r ≡ search c budget s
+pub search-refused : (c : Code) (budget : ℕ) (s : State) (f : Found) (r : Refusal) → Shows f (bound c budget s) → f.verdict ≡ Err r → refused_by r ≡ search c budget s
 unfolding search search_from accepted_as
 search-refused c budget s f r = go (bound c budget s)
   where
-    go : (v : Verdict) → Shows f v → f.verdict ≡ Refused r → refused_by r ≡ search_from c budget s v
-    go (accepted q) h e = let j : Accepted ≡ Refused r = sym (ap (λ (g : Found). g.verdict) h) ∙ e in let z : ◌≡◌ {A = ℕ} 0 1 = cc in absurd (omega arith)
-    go (refused x) h e = let j : Refused r ≡ Refused x = sym e ∙ h in let i : r ≡ x = cc in ap refused_by i
+    go : (v : Verdict) → Shows f v → f.verdict ≡ Err r → refused_by r ≡ search_from c budget s v
+    go (accepted q) h e = let j : Ok tt ≡ Err r = sym (ap (λ (g : Found). g.verdict) h) ∙ e in let z : ◌≡◌ {A = ℕ} 0 1 = cc in absurd (omega arith)
+    go (refused x) h e = let j : Err r ≡ Err x = sym e ∙ h in let i : r ≡ x = cc in ap refused_by i

@@ -4,7 +4,7 @@ use mathlib.Core.Path.{◌≡◌, refl, ap}
 use mathlib.Core.Bool.{Bool, true, false, not}
 use mathlib.Core.List.{List, [], ◌∷◌}
 use mathlib.Core.Logic.{◌⊎◌, inl, inr}
-use mathlib.Core.Option.{some, none}
+use Rattle.std.specs.Prelude.{Some as some, None as none}
 use native.Mathlib.Omega.{arith}
 use lib.Dec.{eqb}
 use borrow.Author.Tests.{eqb-true, eqb-false, not-false}
@@ -14,7 +14,6 @@ use Rattle.refusals.specs.Refusals.{number}
 use Rattle.machine.specs.Machine.{State, Code}
 use Rattle.bound_theory.specs.Tree.{Reason, is_stuck, opens_too_many, is_cut, Step, made, not_made, Report, Verdict, accepted, refused, refusal, address, judge, verdict, explore, bound}
 use Rattle.nearest_changes.specs.Changes.{applied, nearest}
-use Rattle.nearest_changes.specs.Promises as changes
 use Rattle.nearest_changes.proofs.Theorems.{found-nearest, none_found}
 use Rattle.nearest_search.specs.Search.{moved, found, refused_by, search_from, search}
 use Rattle.nearest_search.specs.Promises.{Moves, other_cycles, now_refused, MovedFirst, NeverMoved, FoundMoves, NoneMoves}

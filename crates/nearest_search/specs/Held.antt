@@ -1,5 +1,6 @@
 -- What the code's values stand for, and what is asked of them.
-use Rattle.std.specs.Prelude.{◌<◌, ◌≡◌}
+use Rattle.refusals.specs.declared.Refusal.{Refusal}
+use Rattle.std.specs.Prelude.{◌<◌, ◌≡◌, Err, None, Ok, Result, Some}
 use Rattle.refusals.specs.Library.{ℕ, ℤ, get_or, Bool, false, List, Option, some, none}
 use Rattle.bound_theory.specs.Terms.{Report, Verdict, accepted, bound, Try, done, stuck, Cell, handle, State, Code}
 use Rattle.machine_state.specs.HeldProgram.{IsProgram}
@@ -11,22 +12,14 @@ use Rattle.nearest_changes.specs.declared.Change.{Change}
 use Rattle.nearest_changes.specs.declared.Position.{Position}
 use Rattle.nearest_changes.specs.Places.{replace_at, position_of}
 use Rattle.nearest_changes.specs.Changes.{number_at, applied, first}
-use Rattle.nearest_search.specs.declared.Hit.{Hit}
-use Rattle.nearest_search.specs.declared.Hit.TheVariants.{At, Nowhere}
-use Rattle.nearest_search.specs.declared.Sought.{Sought}
-use Rattle.nearest_search.specs.declared.Sought.TheVariants.{Moves, Still, Refused}
 use Rattle.nearest_search.specs.Search.{moved, Searched, found, refused_by}
 
 -- the first change that moves, if there is one
-abbrev pub of_hit : Hit → Option Change
-of_hit (At c) = some c
-of_hit Nowhere = none
-
 -- what a search comes to
-abbrev pub of_sought : Sought → Searched
-of_sought (Moves c) = found (some c)
-of_sought Still = found none
-of_sought (Refused r) = refused_by r
+abbrev pub of_sought : Result (Option Change) Refusal → Searched
+of_sought (Ok (Some c)) = found (some c)
+of_sought (Ok None) = found none
+of_sought (Err r) = refused_by r
 
 -- what is asked: a program that is well formed, and a start that can be explored
 pub record Searchable (ws : List ℕ) (start : states.State) (budget : ℕ) : Type 0 where

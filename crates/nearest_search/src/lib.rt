@@ -10,28 +10,13 @@ ghost use Rattle.nearest_changes.specs.Places.{replace_at};
 ghost use Rattle.nearest_changes.specs.Changes.{nearest};
 ghost use Rattle.nearest_changes.specs.Held.{Present, trial_of};
 ghost use Rattle.nearest_search.specs.Search.{moved, search};
-ghost use Rattle.nearest_search.specs.Held.{Searchable, MovedAs, of_hit, of_sought, is_read, ReadAs, Reported, first_moved};
+ghost use Rattle.nearest_search.specs.Held.{Searchable, MovedAs, of_sought, is_read, ReadAs, Reported, first_moved};
 
 use bound_figures::Found;
 use cells::Cell;
 use machine_state::State;
-use nearest_changes::{Change, Position, Single, Trial};
-use refusals::{Acceptance, Refusal};
-
-// The first change that moves the bound, if there is one.
-#[derive(Clone, Copy)]
-pub enum Hit {
-    At(Change),
-    Nowhere,
-}
-
-// What a search comes to: the nearest change, none, or the bound's refusal.
-#[derive(Clone, Copy)]
-pub enum Sought {
-    Moves(Change),
-    Still,
-    Refused(Refusal),
-}
+use nearest_changes::{Change, Position};
+use refusals::Refusal;
 
 // Whether the bound that was found moves one of `figure` cycles: its CYCLES are others, or it is refused.
 fn is_moved(figure: u64, found: Found) -> bool
@@ -39,8 +24,8 @@ fn is_moved(figure: u64, found: Found) -> bool
 {
     let verdict = found.verdict;
     match verdict {
-        Acceptance::Accepted => found.cycles != figure,
-        Acceptance::Refused(_) => true,
+        Ok(()) => found.cycles != figure,
+        Err(_) => true,
     }
 }
 
@@ -76,7 +61,7 @@ fn is_read(
     ensures { result ≡ is_read (program_of code.now) budget figure (whole (sizes_of code.now) blocks start) p }
 {
     let held = nearest_changes::number_at(code, start, blocks, p);
-    let Single::Number(_) = held else {
+    let Some(_) = held else {
         return false;
     };
     is_moved_by(code, start, blocks, budget, figure, p, cells::handle(8))
@@ -94,11 +79,9 @@ fn cells_read(
     ensures { ReadAs (program_of code.now) budget figure (whole (sizes_of code.now) blocks start) result }
 {
     let mut read = [false; 193];
-    let mut k = 0;
-    while k < 193 {
+    for k in 0..193 {
         let p = nearest_changes::position_of(k);
         read[k] = is_read(code, start, blocks, budget, figure, p);
-        k += 1;
     }
     read
 }
@@ -111,20 +94,20 @@ fn try_change(
     budget: usize,
     figure: u64,
     j: usize,
-) -> Hit
+) -> Option<Change>
     requires { Searchable code.now start budget × (j < 24704) }
-    ensures { of_hit result ≡ first_moved (program_of code.now) budget figure (whole (sizes_of code.now) blocks start) (trial_of (whole (sizes_of code.now) blocks start) j) }
+    ensures { result ≡ first_moved (program_of code.now) budget figure (whole (sizes_of code.now) blocks start) (trial_of (whole (sizes_of code.now) blocks start) j) }
 {
     let trial = nearest_changes::trial_at(code, start, blocks, j);
-    let Trial::Of(change) = trial else {
-        return Hit::Nowhere;
+    let Some(change) = trial else {
+        return None;
     };
     let p = change.place;
     let c = cells::exactly(change.value);
     if is_moved_by(code, start, blocks, budget, figure, p, c) {
-        return Hit::At(change);
+        return Some(change);
     }
-    Hit::Nowhere
+    None
 }
 
 // The first trial that moves the bound, among those of the cells that are read.
@@ -135,39 +118,42 @@ fn first_moved(
     budget: usize,
     figure: u64,
     read: [bool; 193],
-) -> Hit
+) -> Option<Change>
     requires { Searchable code.now start budget × Reported (program_of code.now) budget figure (whole (sizes_of code.now) blocks start) × ReadAs (program_of code.now) budget figure (whole (sizes_of code.now) blocks start) read }
-    ensures { of_hit result ≡ nearest (λ t. moved figure (bound (program_of code.now) budget t)) (whole (sizes_of code.now) blocks start) }
+    ensures { result ≡ nearest (λ t. moved figure (bound (program_of code.now) budget t)) (whole (sizes_of code.now) blocks start) }
 {
-    let mut j = 0;
-    while j < 24704 {
+    for j in 0..24704 {
         let k = j / 2 % 193;
         if read[k] {
             let hit = try_change(code, start, blocks, budget, figure, j);
-            if let Hit::At(change) = hit {
-                return Hit::At(change);
+            if let Some(change) = hit {
+                return Some(change);
             }
         }
-        j += 1;
     }
-    Hit::Nowhere
+    None
 }
 
 // The nearest change of a start that moves its bound, or the bound's refusal.
-pub fn search(code: &[u32; 5131], start: State, blocks: [Cell; 128], budget: usize) -> Sought
+pub fn search(
+    code: &[u32; 5131],
+    start: State,
+    blocks: [Cell; 128],
+    budget: usize,
+) -> Result<Option<Change>, Refusal>
     requires { Searchable code.now start budget }
     ensures { of_sought result ≡ search (program_of code.now) budget (whole (sizes_of code.now) blocks start) }
 {
     let found = bound_explorer::explore(code, start, blocks, 32, budget);
     let figure = found.cycles;
     let verdict = found.verdict;
-    if let Acceptance::Refused(refusal) = verdict {
-        return Sought::Refused(refusal);
+    if let Err(refusal) = verdict {
+        return Err(refusal);
     }
     let read = cells_read(code, start, blocks, budget, figure);
     let hit = first_moved(code, start, blocks, budget, figure, read);
     match hit {
-        Hit::At(change) => Sought::Moves(change),
-        Hit::Nowhere => Sought::Still,
+        Some(change) => Ok(Some(change)),
+        None => Ok(None),
     }
 }

@@ -1,14 +1,12 @@
 -- How far a number of 32 bits is from 0, by the number of 64 bits that it is cast to. Assumes nothing.
 use mathlib.Core.Path.{◌≡◌, sym, ap, subst, ◌∙◌}
-use mathlib.Core.Bool.{true, false, false≢true}
+use mathlib.Core.Bool.{true}
 use Prim.Native.Nat.{suc, ◌<◌, ◌≤◌}
 use native.Mathlib.Omega.{arith}
-use lib.Dec.{T}
 use lib.IntN.{ℤ, pos, negsuc, nat_abs, ◌-ℤ◌, +ℤ_idl}
-use lib.Signed.{lt_z, non_neg}
+use lib.Signed.{lt_z}
 use mir.Syntax.{w32, w64}
-use mir.Val.{Fits, SFits, of_z, to_z}
-use mir.ValLaws.{to_z-of_z}
+use mir.Val.{SFits}
 use borrow.Author.Tests.{ltb-true}
 use Rattle.numbers.proofs.SignedLaws.{wide, wide_is}
 
@@ -16,11 +14,6 @@ use Rattle.numbers.proofs.SignedLaws.{wide, wide_is}
 minus : (z : ℤ) → lt_z z (pos 0) ≡ true → pos 0 -ℤ z ≡ pos (nat_abs z)
 minus (pos n) e = let h : n < 0 = ltb-true n 0 e in absurd (omega arith)
 minus (negsuc n) e = +ℤ_idl (pos (suc n))
-
--- from 0 on
-natural : (z : ℤ) → lt_z z (pos 0) ≡ false → T (non_neg z)
-natural (pos n) e = tt
-natural (negsuc n) e = absurd (false≢true (sym e))
 
 pub near : (z : ℤ) → SFits w32 z → nat_abs z ≤ 2147483648
 near (pos n) h = let k = h.sfits in omega arith
@@ -36,18 +29,3 @@ module _ (z : ℤ) (h : SFits w32 z) where
 
   pub minus-fits : lt_z (wide z) (pos 0) ≡ true → SFits w64 (pos 0 -ℤ wide z)
   minus-fits e = subst (SFits w64) (sym (minus-wide e)) natural-fits
-
-  minus-back : lt_z (wide z) (pos 0) ≡ true → to_z w64 (of_z w64 (pos 0 -ℤ wide z)) ≡ pos (nat_abs z)
-  minus-back e = to_z-of_z w64 _ (minus-fits e) ∙ minus-wide e
-
-  abs-fits : Fits w64 (nat_abs z)
-  abs-fits = let k = near z h in record { fits = omega arith }
-
-  pub minus-cast : lt_z (wide z) (pos 0) ≡ true → T (non_neg (to_z w64 (of_z w64 (pos 0 -ℤ wide z)))) × Fits w64 (nat_abs (to_z w64 (of_z w64 (pos 0 -ℤ wide z))))
-  minus-cast e = (subst (λ x. T (non_neg x)) (sym (minus-back e)) tt, subst (λ x. Fits w64 (nat_abs x)) (sym (minus-back e)) abs-fits)
-
-  pub minus_is : lt_z (wide z) (pos 0) ≡ true → nat_abs (to_z w64 (of_z w64 (pos 0 -ℤ wide z))) ≡ nat_abs z
-  minus_is e = ap nat_abs (minus-back e)
-
-  pub wide-cast : lt_z (wide z) (pos 0) ≡ false → T (non_neg (wide z)) × Fits w64 (nat_abs (wide z))
-  wide-cast e = (natural (wide z) e, subst (λ x. Fits w64 (nat_abs x)) (sym (wide_is z h)) abs-fits)

@@ -5,14 +5,14 @@ use Prim.Native.Nat.{ℕ, suc, ◌-◌, ◌%◌, ◌<◌}
 use native.Mathlib.Omega.{arith}
 use native.Mathlib.Nat.{mod-eq_of_lt}
 use lib.Dec.{T}
-use lib.IntN.{ℤ, pos, negsuc, nat_abs, ◌+ℤ◌, ◌-ℤ◌}
+use lib.IntN.{ℤ, pos, negsuc, nat_abs, ◌+ℤ◌}
 use lib.Signed.{lt_z, non_neg}
 use mir.Syntax.{w32, w64}
 use mir.Val.{Fits, SFits, of_z, to_z}
-use mir.ValLaws.{to_z-of_z, to_z_pos}
-use borrow.Author.Tests.{lt-ltb, le-ltb, ltb-true, ltb-false}
+use mir.ValLaws.{to_z-of_z}
+use borrow.Author.Tests.{le-ltb, ltb-true}
 use Rattle.numbers.specs.Numbers.{modulus, half, residue, signed}
-use Rattle.numbers.proofs.NumberLaws.{residue-fits, signed-number, signed_low, signed_high}
+use Rattle.numbers.proofs.NumberLaws.{residue-fits, signed-number}
 use Rattle.numbers.proofs.SignedLaws.{wide, wide_is}
 
 -- below 0, the word is the number and 2 ^ 32
@@ -69,17 +69,3 @@ module _ (z : ℤ) (h : SFits w32 z) where
 -- they fit 32 bits
 pub signed-fits : (n : ℕ) → SFits w32 (signed 32 n)
 signed-fits n = record { sfits = signed-number 32 (omega arith) n }
-
--- a word as the code holds it, in 64 bits: below half it is the number, and from there on 2 ^ 32 more
-module _ (n : ℕ) (h : n < modulus 32) where
-  held : to_z w64 n ≡ pos n
-  held = to_z_pos w64 n (omega arith)
-
-  pub signed-kept : lt_z (to_z w64 n) (pos (half 32)) ≡ true → signed 32 n ≡ to_z w64 n
-  signed-kept t = signed_low 32 n (ltb-true n (half 32) (ap (λ z. lt_z z (pos (half 32))) (sym held) ∙ t)) ∙ sym held
-
-  pub signed-lowered : lt_z (to_z w64 n) (pos (half 32)) ≡ false → signed 32 n ≡ to_z w64 n -ℤ pos (modulus 32)
-  signed-lowered t =
-      signed_high 32 n (ltb-false n (half 32) (ap (λ z. lt_z z (pos (half 32))) (sym held) ∙ t))
-      ∙ ap (λ b. cond b (negsuc (modulus 32 - suc n)) (pos (n - modulus 32))) (sym (lt-ltb n (modulus 32) h))
-      ∙ ap (λ z. z -ℤ pos (modulus 32)) (sym held)

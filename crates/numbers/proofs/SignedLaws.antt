@@ -42,9 +42,6 @@ module _ {x y : ℤ} (h : SFits w32 x) (e : x ≡ y) where
   pub result-wide : SFits w64 y
   result-wide = widen y result_fits
 
-  pub result-cast : SFits w32 (read w64 y)
-  result-cast = subst (SFits w32) (sym (to_z-of_z w64 y result-wide)) result_fits
-
   pub result-read : read w32 y ≡ x
   result-read = to_z-of_z w32 y result_fits ∙ sym e
 

@@ -7,9 +7,7 @@ ghost use Rattle.io.specs.Counts.{IsPrefixLen};
 ghost use Rattle.preview_entry.specs.Answers.{preview_answer};
 ghost use Rattle.console.specs.Line.{printed};
 
-use console::Given;
 use std::env::{Env, FillError};
-use std::fs::File;
 
 // Puts what is printed for a text, an address and an instruction at the start of out, and answers how many bytes it is.
 fn answer(text: &[u8], address: u32, instruction: &[u8], out: &mut [u8]) -> usize
@@ -21,36 +19,23 @@ fn answer(text: &[u8], address: u32, instruction: &[u8], out: &mut [u8]) -> usiz
     console::put_line(answer, out)
 }
 
-// Prints the answer for the routine file that is open.
-fn preview_from(rt: &HostRuntime, routine: &mut File, address: u32, instruction: &[u8]) {
-    // one byte more than a routine file may have
-    let mut text = [0u8; 32769];
-    let input = console::read_from(routine, &mut text);
-    if !input.is_whole {
-        console::read_failed(rt);
-        return;
-    }
-    let n = input.length;
-    let mut report = [0u8; 128];
-    let length = answer(&text[..n], address, instruction, &mut report);
-    console::write(rt, &report[..length]);
-}
-
 // Prints the answer for the routine file at a path and the address that a word spells.
 fn preview_at(rt: &HostRuntime, path: &[u8], word: &[u8], instruction: &[u8]) {
-    let address = console::number_of(word);
-    let Given::Number(a) = address else {
+    let Some(address) = console::number_of(word) else {
         console::say(
             rt,
             b"preview ROUTINE ADDRESS INSTRUCTION: ADDRESS is no number of 32 bits\n",
         );
         return;
     };
-    let Some(mut routine) = console::open(rt, path) else {
-        console::say(rt, b"the routine file could not be opened\n");
-        return;
-    };
-    preview_from(rt, &mut routine, a, instruction);
+    let mut report = [0u8; 128];
+    console::print_for_file(
+        rt,
+        path,
+        b"the routine file could not be opened\n",
+        &mut report,
+        |text, out| answer(text, address, instruction, out),
+    );
 }
 
 fn main(rt: HostRuntime) {

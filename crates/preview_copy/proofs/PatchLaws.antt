@@ -1,4 +1,5 @@
 -- Laws of a patched copy: the parts that it is made of, as the code takes them of a file that passes. Assumes nothing.
+use Rattle.std.specs.Prelude.{Err, Ok}
 use mathlib.Core.Path.{◌≡◌, refl, sym, ap, ap₂, subst, ◌∙◌}
 use mathlib.Core.Bool.{Bool, true, cond, ◌&&◌}
 use mathlib.Core.List.{List, [], ◌++◌}
@@ -26,7 +27,6 @@ use Rattle.file_format.proofs.CodeLineLaws.{code-take}
 use Rattle.file_format.proofs.PassingLaws.{Coded, none as no_code, next, code-passed, code-among}
 use Rattle.text.proofs.JoinLaws.{lines-append, text-of-lines, words-three}
 use Rattle.answers.specs.Answers.{Answer, reported, refused, of_reading, memory, answer_of}
-use Rattle.answers.specs.declared.Answer.TheVariants.{Reported, Refused}
 use Rattle.preview_copy.specs.Patch.{in_code, patched_at, patched}
 use Rattle.preview_copy.specs.Held.{within, copy_answer}
 
@@ -197,14 +197,14 @@ module _ (text : List ℕ) (p : Passes (lines text)) (short : length text ≤ 32
 -- ---- what is told of the copy
 
 -- an answer by what the code tells of it, and by the memory
-pub told-copy : (a : Answer) (n : ℕ) → Reported n ≡ answer_of a → (former out : List ℕ) → out ≡ memory a former → (a ≡ reported (take n out)) × (n ≤ length out)
+pub told-copy : (a : Answer) (n : ℕ) → Ok n ≡ answer_of a → (former out : List ℕ) → out ≡ memory a former → (a ≡ reported (take n out)) × (n ≤ length out)
 unfolding answer_of memory
 told-copy (reported bs) n e former out m =
     let l : n ≡ length bs = cc in
     (ap reported (sym (ap₂ take l m ∙ take-append_seam bs (drop (length bs) former))), omega (arith, l, ap length m, length-append bs (drop (length bs) former)))
 told-copy (refused x) n e former out m = let z : ◌≡◌ {A = ℕ} 0 1 = cc in absurd (omega arith)
 
-pub told-refusal : (a : Answer) (x : Refusal) → Refused x ≡ answer_of a → a ≡ refused x
+pub told-refusal : (a : Answer) (x : Refusal) → Err x ≡ answer_of a → a ≡ refused x
 unfolding answer_of
 told-refusal (reported bs) x e = let z : ◌≡◌ {A = ℕ} 0 1 = cc in absurd (omega arith)
 told-refusal (refused y) x e = let h : y ≡ x = cc in ap refused h

@@ -9,7 +9,6 @@ ghost use Rattle.answers.specs.Answers.{memory, answer_of};
 ghost use Rattle.preview_copy.specs.Patch.{patched_at};
 ghost use Rattle.preview_copy.specs.Held.{within, copy_answer};
 
-use answers::Answer;
 use refusals::Refusal;
 
 // Puts the parts of a copy one after the other at the start of out, and answers their length.
@@ -27,7 +26,7 @@ fn put_parts(out: &mut [u8], before: &[u8], at: &[u8], instruction: &[u8], after
 }
 
 // Puts the text with another instruction on line k, counted from 0, at the start of out, unless it is longer than a text may be.
-fn put_copy(text: &[u8], k: usize, instruction: &[u8], out: &mut [u8]) -> Answer
+fn put_copy(text: &[u8], k: usize, instruction: &[u8], out: &mut [u8]) -> Result<usize, Refusal>
     requires { Passes (lines text.now) × (length text.now ≤ 32768) × (14 ≤ k) × (k < 14 + length (lines_of_code (body (lines text.now)))) × (32768 ≤ length out.old) }
     ensures value { result ≡ answer_of (within (patched_at (lines text.now) k instruction.now)) }
     ensures out_after { out.new ≡ memory (within (patched_at (lines text.now) k instruction.now)) out.old }
@@ -39,15 +38,15 @@ fn put_copy(text: &[u8], k: usize, instruction: &[u8], out: &mut [u8]) -> Answer
     let start = text.len() - rest.len();
     let kept = start + at.len() + 2 + after.len();
     if 32768 - kept < instruction.len() {
-        return Answer::Refused(Refusal::TextLength);
+        return Err(Refusal::TextLength);
     }
     let n = put_parts(out, &text[..start], at, instruction, after);
-    Answer::Reported(n)
+    Ok(n)
 }
 
 // The copy of a file that passes, with another instruction at an address, at the start of out; or the refusal that comes before those of the
 // copy's lines.
-pub fn copy(text: &[u8], address: u32, instruction: &[u8], out: &mut [u8]) -> Answer
+pub fn copy(text: &[u8], address: u32, instruction: &[u8], out: &mut [u8]) -> Result<usize, Refusal>
     requires { Passes (lines text.now) × (length text.now ≤ 32768) × (32768 ≤ length out.old) }
     ensures value { result ≡ answer_of (copy_answer text.now address instruction.now) }
     ensures out_after { out.new ≡ memory (copy_answer text.now address instruction.now) out.old }
@@ -57,10 +56,10 @@ pub fn copy(text: &[u8], address: u32, instruction: &[u8], out: &mut [u8]) -> An
     let count = file_layout::count_code(body);
     let place = address as usize;
     if place < first {
-        return Answer::Refused(Refusal::BadName(address));
+        return Err(Refusal::BadName(address));
     }
     if count <= place - first {
-        return Answer::Refused(Refusal::BadName(address));
+        return Err(Refusal::BadName(address));
     }
     put_copy(text, file_layout::LINES + (place - first), instruction, out)
 }

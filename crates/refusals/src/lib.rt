@@ -23,13 +23,6 @@ pub enum Refusal {
     NoMeeting(usize),
 }
 
-// How a check of a text, a bound or a run ends.
-#[derive(Clone, Copy)]
-pub enum Acceptance {
-    Accepted,
-    Refused(Refusal),
-}
-
 // The number of a refusal.
 pub fn number(refusal: Refusal) -> u64
     ensures { result ≡ number refusal }

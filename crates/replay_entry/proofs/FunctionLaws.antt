@@ -1,4 +1,5 @@
 -- Laws of the answers of a replay: in each case of the code, how large they are, and where they refuse. Assumes nothing.
+use Rattle.std.specs.Prelude.{Err, Ok, Result, ⊤, None, Option, Some}
 use Prim.Native.Nat.{ℕ, ◌+◌, ◌<◌, ◌≤◌}
 use mathlib.Core.Path.{◌≡◌, refl, sym, ap, ◌∙◌}
 use mathlib.Core.List.{List, ◌++◌}
@@ -7,8 +8,6 @@ use lib.IntN.{ℤ}
 use lib.ListN.{length, length-append, length-map, length-drop}
 use Rattle.refusals.specs.declared.Refusal.{Refusal}
 use Rattle.refusals.specs.Refusals.{place}
-use Rattle.refusals.specs.declared.Acceptance.{Acceptance}
-use Rattle.refusals.specs.declared.Acceptance.TheVariants.{Accepted, Refused}
 use Rattle.text.specs.Text.{bytes, lines}
 use Rattle.text_decimals.specs.Decimal.{decimal}
 use Rattle.text_decimals.proofs.DecimalLaws.{decimal-length}
@@ -19,8 +18,6 @@ use Rattle.file_format.proofs.PlaceLaws.{read-run-place}
 use Rattle.file_reader.specs.declared.Routine.{Routine}
 use Rattle.replay_trace.specs.Traces.{trace_acceptance, entries}
 use Rattle.replay_trace.proofs.TraceLaws.{entries-few, trace-place}
-use Rattle.replay_steps.specs.declared.Replayed.{Replayed}
-use Rattle.replay_steps.specs.declared.Replayed.TheVariants.{Agrees, Differs}
 use Rattle.replay_steps.specs.Replay.{Outcome, agreed, differed, replay}
 use Rattle.replay_steps.specs.Held.{of_replayed}
 use Rattle.replay_steps.proofs.Theorems.{differs-where}
@@ -31,18 +28,18 @@ use Rattle.replay_entry.specs.Held.{outcome_in}
 
 -- ---- what is printed
 
-pub text-agrees : (x : Replayed) → x ≡ Agrees → outcome_text (of_replayed x) ≡ bytes "AGREES\n"
+pub text-agrees : (x : Option ℕ) → x ≡ None → outcome_text (of_replayed x) ≡ bytes "AGREES\n"
 unfolding outcome_text of_replayed
 text-agrees x e = rw e refl
 
-pub text-differs : (x : Replayed) (n : ℕ) → x ≡ Differs n → outcome_text (of_replayed x) ≡ bytes "DIFFERS " ++ decimal n ++ bytes "\n"
+pub text-differs : (x : Option ℕ) (n : ℕ) → x ≡ Some n → outcome_text (of_replayed x) ≡ bytes "DIFFERS " ++ decimal n ++ bytes "\n"
 unfolding outcome_text of_replayed
 text-differs x n e = rw e refl
 
 differed-length : (n : ℕ) → length (bytes "DIFFERS " ++ decimal n ++ bytes "\n") ≡ 8 + length (decimal n) + 1
 differed-length n = simp length-append
 
-pub agrees-length : (x : Replayed) → x ≡ Agrees → length (outcome_text (of_replayed x)) ≡ 7
+pub agrees-length : (x : Option ℕ) → x ≡ None → length (outcome_text (of_replayed x)) ≡ 7
 agrees-length x e = rw (text-agrees x e) refl
 
 -- a line's number has four digits at most
@@ -56,13 +53,13 @@ outcome-length (differed n) h =
 
 -- ---- a trace
 
-pub lines-few : (trace : List ℕ) → trace_acceptance trace ≡ Accepted → length (lines trace) ≤ 4097
+pub lines-few : (trace : List ℕ) → trace_acceptance trace ≡ Ok tt → length (lines trace) ≤ 4097
 unfolding entries
 lines-few trace e = let h = entries-few trace e in let k = rw (length-map, length-drop) at h in omega arith
 
 -- ---- a routine
 
-module _ (trace : List ℕ) (accepted : trace_acceptance trace ≡ Accepted) where
+module _ (trace : List ℕ) (accepted : trace_acceptance trace ≡ Ok tt) where
   -- what is said of an accepted trace
   outcome_fits : (c : Code) (s : State) (answers : List ℤ) → (1 ≤ length (outcome_text (replay c s answers (entries trace)))) × (length (outcome_text (replay c s answers (entries trace))) ≤ 13)
   outcome_fits c s answers = outcome-length (replay c s answers (entries trace)) (λ n e. let (k, q, f) = (differs-where c s answers (entries trace)).0 n e in let l = entries-few trace accepted in let t = f.there in omega arith)
@@ -70,11 +67,11 @@ module _ (trace : List ℕ) (accepted : trace_acceptance trace ≡ Accepted) whe
   pub said-length : (x : Routine) → (1 ≤ length (outcome_text (outcome_in x trace))) × (length (outcome_text (outcome_in x trace)) ≤ 13)
   said-length x = outcome_fits _ _ _
 
-  pub said : (x : Routine) (s : Replayed) → of_replayed s ≡ outcome_in x trace → of_acceptance (outcome_text (outcome_in x trace)) (trace_acceptance trace) ≡ reported (outcome_text (of_replayed s))
+  pub said : (x : Routine) (s : Option ℕ) → of_replayed s ≡ outcome_in x trace → of_acceptance (outcome_text (outcome_in x trace)) (trace_acceptance trace) ≡ reported (outcome_text (of_replayed s))
   unfolding of_acceptance
   said x s e = rw (accepted, ← e) refl
 
-pub said-refused : (trace made : List ℕ) (r : Refusal) → trace_acceptance trace ≡ Refused r → of_acceptance made (trace_acceptance trace) ≡ refused r
+pub said-refused : (trace made : List ℕ) (r : Refusal) → trace_acceptance trace ≡ Err r → of_acceptance made (trace_acceptance trace) ≡ refused r
 unfolding of_acceptance
 said-refused trace made r e = rw e refl
 
@@ -93,10 +90,10 @@ module _ (text trace : List ℕ) (n : ℕ) where
       let x = a.routine in
       go (outcome_text (replay x.code x.start x.answers (entries trace))) (λ k. outcome_fits trace k x.code x.start x.answers) (trace_acceptance trace) refl a.lent a.gives
     where
-      go : (said : List ℕ) → (trace_acceptance trace ≡ Accepted → (1 ≤ length said) × (length said ≤ 13)) → (v : Acceptance) → trace_acceptance trace ≡ v → 128 ≤ n → of_acceptance said v ≡ reported bs
+      go : (said : List ℕ) → (trace_acceptance trace ≡ Ok tt → (1 ≤ length said) × (length said ≤ 13)) → (v : Result ⊤ Refusal) → trace_acceptance trace ≡ v → 128 ≤ n → of_acceptance said v ≡ reported bs
           → (1 ≤ length bs) × (length bs ≤ 128) × (128 ≤ n)
-      go said h Accepted q l e = let f : said ≡ bs = cc in let k = h q in rw (← f) (k.0, omega (arith, k.1), l)
-      go said h (Refused r) q l e = never r bs e
+      go said h (Ok tt) q l e = let f : said ≡ bs = cc in let k = h q in rw (← f) (k.0, omega (arith, k.1), l)
+      go said h (Err r) q l e = never r bs e
 
   -- a refusal
   pub replay-place : (r : Refusal) → replay_answer text trace n ≡ refused r → place r ≤ 32769
@@ -106,6 +103,6 @@ module _ (text trace : List ℕ) (n : ℕ) where
       (read-run-place text)
       (λ x e f. go (outcome_text (replay x.code x.start x.answers (entries trace))) (trace_acceptance trace) refl f)
     where
-      go : (made : List ℕ) (v : Acceptance) → trace_acceptance trace ≡ v → of_acceptance made v ≡ refused r → place r ≤ 32769
-      go made Accepted q f = never r made (sym f)
-      go made (Refused x) q f = let h : x ≡ r = cc in omega (arith, trace-place trace r (q ∙ ap Refused h))
+      go : (made : List ℕ) (v : Result ⊤ Refusal) → trace_acceptance trace ≡ v → of_acceptance made v ≡ refused r → place r ≤ 32769
+      go made (Ok tt) q f = never r made (sym f)
+      go made (Err x) q f = let h : x ≡ r = cc in omega (arith, trace-place trace r (q ∙ ap Err h))

@@ -1,4 +1,6 @@
 -- The statement of `specs/Promises`, proved by its name. Assumes nothing.
+use Rattle.refusals.specs.declared.Refusal.{Refusal}
+use Rattle.std.specs.Prelude.{Err, Ok, Result, Some, ⊤}
 use Prim.Native.Nat.{ℕ}
 use mathlib.Core.Path.{◌≡◌, refl, sym, ap, ◌∙◌}
 use mathlib.Core.List.{List, ◌++◌, append_cancel_left, append_cancel_right}
@@ -6,9 +8,6 @@ use native.Mathlib.Omega.{arith}
 use lib.IntN.{pos}
 use lib.ListN.{length, get_or, take}
 use lib.Seq.{take-length}
-use Rattle.refusals.specs.declared.Acceptance.{Acceptance}
-use Rattle.refusals.specs.declared.Acceptance.TheVariants.{Accepted, Refused}
-use Rattle.text_decimals.specs.declared.Numeral.TheVariants.{Number}
 use Rattle.text.specs.Text.{bytes, lines}
 use Rattle.text_decimals.specs.Decimal.{decimal, numeral}
 use Rattle.text_decimals.proofs.DecimalLaws.{decimal-read}
@@ -22,7 +21,6 @@ use Rattle.replay_trace.specs.Traces.{Entry, entries, trace_acceptance}
 use Rattle.replay_steps.specs.Replay.{Outcome, agreed, differed, replay}
 use Rattle.replay_steps.specs.Promises.{spent}
 use Rattle.replay_steps.proofs.Theorems.{agrees-where, differs-where, spent-within-run, spent-within-bound}
-use Rattle.answers.specs.declared.Answer as code
 use Rattle.answers.specs.Answers.{reported, memory_limit, of_acceptance, memory, answer_of, report_length, Delivers}
 use Rattle.answers.proofs.AnswerLaws.{never, from-reading, delivers}
 use Rattle.replay_entry.specs.Answers.{outcome_text, replay_routine, replay_answer}
@@ -37,7 +35,7 @@ said-agreed (differed n) e = let z : ◌≡◌ {A = ℕ} 68 65 = ap (λ l. get_o
 
 -- a number is written in one way
 written_one : (m n : ℕ) → decimal m ≡ decimal n → m ≡ n
-written_one m n e = let z : Number (pos m) ≡ Number (pos n) = sym (decimal-read m) ∙ ap numeral e ∙ decimal-read n in cc
+written_one m n e = let z : Some (pos m) ≡ Some (pos n) = sym (decimal-read m) ∙ ap numeral e ∙ decimal-read n in cc
 
 said-differed : (o : Outcome) (n : ℕ) → outcome_text o ≡ bytes "DIFFERS " ++ decimal n ++ bytes "\n" → o ≡ differed n
 unfolding outcome_text
@@ -77,11 +75,11 @@ replays-kept text trace n printed e =
       differs = λ m h. (differs-where x.code x.start x.answers (entries trace)).0 m (said-differed o m (said ∙ h));
     }
   where
-    go : (made : List ℕ) (v : Acceptance) → of_acceptance made v ≡ reported printed → made ≡ printed
-    go made Accepted e = cc
-    go made (Refused r) e = never r printed e
+    go : (made : List ℕ) (v : Result ⊤ Refusal) → of_acceptance made v ≡ reported printed → made ≡ printed
+    go made (Ok tt) e = cc
+    go made (Err r) e = never r printed e
 
 -- so of the bytes that are told
-pub told-kept : (text trace : List ℕ) (n : ℕ) (former out : List ℕ) (r : code.Answer) → (r ≡ answer_of (replay_answer text trace n)) × (out ≡ memory (replay_answer text trace n) former) →
+pub told-kept : (text trace : List ℕ) (n : ℕ) (former out : List ℕ) (r : Result ℕ Refusal) → (r ≡ answer_of (replay_answer text trace n)) × (out ≡ memory (replay_answer text trace n) former) →
     (r ≡ answer_of (replay_answer text trace n)) × ((out ≡ memory (replay_answer text trace n) former) × Delivers (report_length r) out (ReplayKept text trace))
 told-kept text trace n former out r (e, m) = (e, (m, delivers (ReplayKept text trace) (replay_answer text trace n) (replays-kept text trace n) r e former out m))

@@ -11,14 +11,12 @@ ghost use Rattle.replay_entry.specs.Answers.{outcome_text, replay_answer};
 ghost use Rattle.replay_entry.specs.Promises.{ReplayKept};
 ghost use Rattle.replay_entry.specs.Held.{outcome_in};
 
-use answers::Answer;
 use file_check::Reader;
 use file_reader::Routine;
-use refusals::Acceptance;
-use replay_steps::Replayed;
+use refusals::Refusal;
 
 // What the replay of an accepted trace says of the routine.
-fn followed(routine: Routine, trace: &[u8]) -> Replayed
+fn followed(routine: Routine, trace: &[u8]) -> Option<usize>
     requires { Limited routine × (length (lines trace.now) ≤ 4097) }
     ensures { of_replayed result ≡ outcome_in routine trace.now }
 {
@@ -32,14 +30,14 @@ fn followed(routine: Routine, trace: &[u8]) -> Replayed
 }
 
 // Puts what a replay says at the start of out, and answers its length.
-fn put_outcome(out: &mut [u8], said: Replayed) -> usize
+fn put_outcome(out: &mut [u8], said: Option<usize>) -> usize
     requires { length (outcome_text (of_replayed said)) ≤ length out.old }
     ensures value { result ≡ length (outcome_text (of_replayed said)) }
     ensures out_after { out.new ≡ outcome_text (of_replayed said) ++ drop (length (outcome_text (of_replayed said))) out.old }
 {
     match said {
-        Replayed::Agrees => text_decimals::put(out, 0, b"AGREES\n"),
-        Replayed::Differs(n) => {
+        None => text_decimals::put(out, 0, b"AGREES\n"),
+        Some(n) => {
             let a = text_decimals::put(out, 0, b"DIFFERS ");
             let b = text_decimals::put_decimal(out, a, n as u64);
             text_decimals::put(out, b, b"\n")
@@ -48,34 +46,23 @@ fn put_outcome(out: &mut [u8], said: Replayed) -> usize
 }
 
 // The answer of the replay to a routine and a trace.
-fn replay_trace(routine: Routine, trace: &[u8], out: &mut [u8]) -> Answer
+fn replay_trace(routine: Routine, trace: &[u8], out: &mut [u8]) -> Result<usize, Refusal>
     requires { Limited routine × (128 ≤ length out.old) }
     ensures value { result ≡ answer_of (of_acceptance (outcome_text (outcome_in routine trace.now)) (trace_acceptance trace.now)) }
     ensures out_after { out.new ≡ memory (of_acceptance (outcome_text (outcome_in routine trace.now)) (trace_acceptance trace.now)) out.old }
 {
-    let verdict = replay_trace::check_trace(trace);
-    match verdict {
-        Acceptance::Accepted => {
-            let said = followed(routine, trace);
-            let n = put_outcome(out, said);
-            Answer::Reported(n)
-        }
-        Acceptance::Refused(refusal) => Answer::Refused(refusal),
-    }
+    replay_trace::check_trace(trace)?;
+    let said = followed(routine, trace);
+    Ok(put_outcome(out, said))
 }
 
 // The replay of a card's trace on a routine file: `AGREES` or `DIFFERS` and a line in the lent memory, or a refusal.
-pub fn replay(text: &[u8], trace: &[u8], out: &mut [u8]) -> Answer
+pub fn replay(text: &[u8], trace: &[u8], out: &mut [u8]) -> Result<usize, Refusal>
     ensures value { result ≡ answer_of (replay_answer text.now trace.now (length out.old)) }
     ensures out_after { out.new ≡ memory (replay_answer text.now trace.now (length out.old)) out.old }
     ensures kept { Delivers (report_length result) out.new (ReplayKept text.now trace.now) }
 {
-    let verdict = file_entry::check(Reader::Run, 128, out.len(), text);
-    match verdict {
-        Acceptance::Accepted => {
-            let routine = file_reader::routine_of(text);
-            replay_trace(routine, trace, out)
-        }
-        Acceptance::Refused(refusal) => Answer::Refused(refusal),
-    }
+    file_entry::check(Reader::Run, 128, out.len(), text)?;
+    let routine = file_reader::routine_of(text);
+    replay_trace(routine, trace, out)
 }

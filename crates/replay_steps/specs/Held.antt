@@ -1,13 +1,11 @@
 -- What the replay's values in code stand for.
-use Rattle.std.specs.Prelude.{◌≤◌, ◌≡◌}
+use Rattle.std.specs.Prelude.{◌≤◌, ◌≡◌, None, Option, Some}
 use Rattle.refusals.specs.Library.{ℕ, suc, ℤ, drop, Bool, true, false, List}
 use Rattle.bound_theory.specs.Terms.{Run, Cell, Code}
 use Rattle.machine_state.specs.HeldState.{WellFormed, whole}
 use Rattle.machine_state.specs.declared.State as states
 use Rattle.bound_theory.specs.Run.{once}
 use Rattle.replay_steps.specs.declared.Held.{Held}
-use Rattle.replay_steps.specs.declared.Replayed.{Replayed}
-use Rattle.replay_steps.specs.declared.Replayed.TheVariants.{Agrees, Differs}
 use Rattle.replay_steps.specs.Replay.{Outcome, agreed, differed, agrees}
 
 -- the state, the blocks of the sizes ns, the answers taken and whether STOP was made are those of the run r over the listed answers
@@ -24,6 +22,6 @@ pub record Holds (c : Code) (ns : List ℕ) (answers : List ℤ) (taken : ℕ) (
   pub few : h.taken ≤ suc taken
 
 -- what a replay says
-unfoldable pub of_replayed : Replayed → Outcome
-of_replayed Agrees = agreed
-of_replayed (Differs n) = differed n
+unfoldable pub of_replayed : Option ℕ → Outcome
+of_replayed None = agreed
+of_replayed (Some n) = differed n

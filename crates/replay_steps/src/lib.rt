@@ -70,22 +70,15 @@ fn follow(
     }
 }
 
-// What a replay says: that the trace agrees, or the number of its first line that differs.
-#[derive(Clone, Copy)]
-pub enum Replayed {
-    Agrees,
-    Differs(usize),
-}
-
 // What is said where line n made STOP and `rest` follows: "A line after STOP differs".
-fn after_stop(n: usize, rest: &[u8]) -> Replayed
+fn after_stop(n: usize, rest: &[u8]) -> Option<usize>
     requires { n < 5000 }
     ensures { of_replayed result ≡ cond (is_empty (lines rest.now)) agreed (differed (suc n)) }
 {
     if rest.len() == 0 {
-        return Replayed::Agrees;
+        return None;
     }
-    Replayed::Differs(n + 1)
+    Some(n + 1)
 }
 
 // The replay of an accepted trace from `start` with the blocks `initial`.
@@ -95,7 +88,7 @@ pub fn replay(
     initial: [Cell; 128],
     answers: &[i32],
     trace: &[u8],
-) -> Replayed
+) -> Option<usize>
     requires { IsProgram code.now × WellFormed start × (length (lines trace.now) ≤ 4097) }
     ensures { of_replayed result ≡ replay (program_of code.now) (whole (sizes_of code.now) initial start) answers.now (entries trace.now) }
 {
@@ -104,6 +97,7 @@ pub fn replay(
     let mut taken = 0;
     let mut rest = text::next_lines(trace);
     let mut line = 2;
+    // A while: the lines of a text are met by cutting off the first, and how many there are is known only at its end.
     while 0 < rest.len() {
         let entry = replay_trace::entry_of(text::first_line(rest));
         let held = follow(
@@ -116,7 +110,7 @@ pub fn replay(
             entry.cycles as u64,
         );
         if !held.agrees {
-            return Replayed::Differs(line);
+            return Some(line);
         }
         let next = text::next_lines(rest);
         if held.stopped {
@@ -129,5 +123,5 @@ pub fn replay(
         blocks = left;
         line += 1;
     }
-    Replayed::Agrees
+    None
 }

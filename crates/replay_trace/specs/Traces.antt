@@ -1,15 +1,11 @@
 -- The text of a card's trace: which refusal it has, and the steps that it records. (document 02, §4)
 -- Every definition is total: what an accepted text never needs is 0 or empty.
-use Rattle.std.specs.Prelude.{◌&&◌, ◌∷◌}
+use Rattle.std.specs.Prelude.{◌&&◌, ◌∷◌, Err, None, Ok, Option, Result, Some, ⊤}
 use Rattle.refusals.specs.Library.{ℕ, zero, suc, eqb, ltb, length, get_or, drop, Bool, true, cond, List, [], map}
 use Rattle.file_format.specs.Terms.{Refusal, TextLength, Layout, OutOfRange, bytes, Line, lines, line_words, equals, numeral}
-use Rattle.refusals.specs.declared.Acceptance.{Acceptance}
-use Rattle.refusals.specs.declared.Acceptance.TheVariants.{Accepted as accepted, Refused as refused}
 use Rattle.numbers.specs.declared.Range.{Range}
 use Rattle.numbers.specs.Numbers.{naturals, within}
 use Rattle.instructions.specs.Kinds.{addresses}
-use Rattle.file_format.specs.declared.RefusedLine.{RefusedLine}
-use Rattle.file_format.specs.declared.RefusedLine.TheVariants.{Nowhere as nowhere, Line as line}
 use Rattle.file_format.specs.Rows.{is_numeral, value, at}
 use Rattle.file_format.specs.Routine.{natural_in}
 
@@ -68,31 +64,31 @@ line_in_range k l = text_in_range k l.text
 -- ---- the refusals
 
 -- "with the trace's line as the place": the earliest line that fails a test, counted from 1, where the first of ls has the index k
-unfoldable pub earliest : (ℕ → Line → Bool) → ℕ → List Line → RefusedLine
-earliest t k [] = nowhere
-earliest t k (l ∷ ls) = cond (t k l) (earliest t (suc k) ls) (line (suc k))
+unfoldable pub earliest : (ℕ → Line → Bool) → ℕ → List Line → Option ℕ
+earliest t k [] = None
+earliest t k (l ∷ ls) = cond (t k l) (earliest t (suc k) ls) (Some (suc k))
 
 -- "its names line is line 1": a text with no line lacks it there
-unfoldable pub layout_fault : List Line → RefusedLine
-layout_fault [] = line 1
+unfoldable pub layout_fault : List Line → Option ℕ
+layout_fault [] = Some 1
 layout_fault (l ∷ ls) = earliest line_laid_out 0 (l ∷ ls)
 
 -- row 3 over all lines
-unfoldable pub range_fault : List Line → RefusedLine
+unfoldable pub range_fault : List Line → Option ℕ
 range_fault ls = earliest line_in_range 0 ls
 
 -- the refusal at the line that a row refuses, or what comes next
-unfoldable pub refused_at : RefusedLine → (ℕ → Refusal) → Acceptance → Acceptance
-refused_at nowhere r next = next
-refused_at (line n) r next = refused (r n)
+unfoldable pub refused_at : Option ℕ → (ℕ → Refusal) → Result ⊤ Refusal → Result ⊤ Refusal
+refused_at None r next = next
+refused_at (Some n) r next = Err (r n)
 
 -- 2 over all lines, then 3 over all lines
-unfoldable pub line_verdict : List Line → Acceptance
-line_verdict ls = refused_at (layout_fault ls) Layout (refused_at (range_fault ls) OutOfRange accepted)
+unfoldable pub line_verdict : List Line → Result ⊤ Refusal
+line_verdict ls = refused_at (layout_fault ls) Layout (refused_at (range_fault ls) OutOfRange (Ok tt))
 
 -- "at most 131,072 bytes or refusal 1 at place 0" comes first
-unfoldable pub trace_acceptance : List ℕ → Acceptance
-trace_acceptance text = cond (ltb trace_limit (length text)) (refused TextLength) (line_verdict (lines text))
+unfoldable pub trace_acceptance : List ℕ → Result ⊤ Refusal
+trace_acceptance text = cond (ltb trace_limit (length text)) (Err TextLength) (line_verdict (lines text))
 
 -- ---- the recorded steps
 

@@ -6,9 +6,8 @@ ghost use Rattle.text.specs.Text.{lines, no_line};
 ghost use Rattle.replay_trace.specs.Traces.{trace_limit, cycle_range, entry_laid_out, text_laid_out, line_laid_out, entry_in_range, text_in_range, earliest, trace_acceptance, entry_of};
 ghost use Rattle.replay_trace.specs.HeldScan.{line_test};
 
-use file_format::RefusedLine;
 use numbers::Range;
-use refusals::{Acceptance, Refusal};
+use refusals::Refusal;
 
 // A recorded step.
 #[derive(Clone, Copy)]
@@ -110,43 +109,44 @@ fn passes(test: LineTest, k: usize, rest: &[u8]) -> bool
 }
 
 // The earliest line that fails a test, counted from 1.
-fn earliest(test: LineTest, trace: &[u8]) -> RefusedLine
+fn earliest(test: LineTest, trace: &[u8]) -> Option<u32>
     requires { length trace.now ≤ trace_limit }
     ensures { result ≡ earliest (line_test test) 0 (lines trace.now) }
 {
     let mut rest = trace;
     let mut passed: usize = 0;
+    // A while: the lines of a text are met by cutting off the first, and how many there are is known only at its end.
     while 0 < rest.len() {
         if passes(test, passed, rest) {
             let next = text::next_lines(rest);
             rest = next;
             passed += 1;
         } else {
-            return RefusedLine::Line((passed + 1) as u32);
+            return Some((passed + 1) as u32);
         }
     }
-    RefusedLine::Nowhere
+    None
 }
 
 // The refusal of a trace.
-pub fn check_trace(trace: &[u8]) -> Acceptance
+pub fn check_trace(trace: &[u8]) -> Result<(), Refusal>
     ensures { result ≡ trace_acceptance trace.now }
 {
     if 131072 < trace.len() {
-        return Acceptance::Refused(Refusal::TextLength);
+        return Err(Refusal::TextLength);
     }
     if trace.len() == 0 {
-        return Acceptance::Refused(Refusal::Layout(1));
+        return Err(Refusal::Layout(1));
     }
     let layout = earliest(LineTest::Layout, trace);
-    if let RefusedLine::Line(n) = layout {
-        return Acceptance::Refused(Refusal::Layout(n));
+    if let Some(n) = layout {
+        return Err(Refusal::Layout(n));
     }
     let range = earliest(LineTest::Range, trace);
-    if let RefusedLine::Line(n) = range {
-        return Acceptance::Refused(Refusal::OutOfRange(n));
+    if let Some(n) = range {
+        return Err(Refusal::OutOfRange(n));
     }
-    Acceptance::Accepted
+    Ok(())
 }
 
 // The step that a line records.

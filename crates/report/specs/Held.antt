@@ -1,8 +1,7 @@
 -- What is asked of a report, and what is answered of the figures found.
-use Rattle.std.specs.Prelude.{◌≤◌, ◌≡◌}
+use Rattle.refusals.specs.declared.Refusal.{Refusal}
+use Rattle.std.specs.Prelude.{◌≤◌, ◌≡◌, Err, Ok, Result, ⊤}
 use Rattle.refusals.specs.Library.{ℕ, length, List}
-use Rattle.refusals.specs.declared.Acceptance.TheVariants.{Accepted, Refused}
-use Rattle.refusals.specs.declared.Acceptance as code
 use Rattle.bound_figures.specs.declared.Found.{Found}
 use Rattle.answers.specs.Answers.{Answer, reported, refused}
 use Rattle.report.specs.Report.{bound_text}
@@ -19,9 +18,9 @@ pub record Printable (a : Answer) (tick n : ℕ) : Type 0 where
   pub fits : (bs : List ℕ) → a ≡ reported bs → length bs ≤ n
 
 -- the figures found with a verdict: their report, or the refusal
-unfoldable pub judged_as : ℕ → Found → code.Acceptance → Answer
-judged_as tick f Accepted = reported (bound_text tick (report_of f.cycles f.words f.depth f.used f.path))
-judged_as tick f (Refused x) = refused x
+unfoldable pub judged_as : ℕ → Found → Result ⊤ Refusal → Answer
+judged_as tick f (Ok tt) = reported (bound_text tick (report_of f.cycles f.words f.depth f.used f.path))
+judged_as tick f (Err x) = refused x
 
 -- with their own
 abbrev pub found_answer : ℕ → Found → Answer

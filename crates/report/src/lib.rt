@@ -8,9 +8,8 @@ ghost use Rattle.report.specs.Report.{share, letter, path_text, figures, bound_t
 ghost use Rattle.report.specs.HeldPath.{decision, decode, report_of};
 ghost use Rattle.report.specs.Held.{Shareable, Printable, found_answer};
 
-use answers::Answer;
 use bound_figures::Found;
-use refusals::Acceptance;
+use refusals::Refusal;
 
 // SHARE: the cycles in thousandths of a tick, to the nearest whole number, and at an exact half to the even one.
 pub fn share(tick: u64, cycles: u64) -> u64
@@ -46,6 +45,7 @@ pub fn put_path(out: &mut [u8], at: usize, path: u64) -> usize
     }
     let mut rest = path;
     let mut e = at;
+    // A while: the letters are the bits of the path, the lowest first, up to the highest, which ends them.
     while 2 <= rest {
         out[e] = letter(rest % 2);
         rest /= 2;
@@ -119,27 +119,22 @@ pub fn put_refusal(out: &mut [u8], number: u64, place: u64) -> usize
 }
 
 // What was found of a routine with this TICK: its report, or its refusal.
-pub fn put_found(found: Found, tick: u64, out: &mut [u8]) -> Answer
+pub fn put_found(found: Found, tick: u64, out: &mut [u8]) -> Result<usize, Refusal>
     requires shareable { Shareable found }
     requires printable { Printable (found_answer tick found) tick (length out.old) }
     ensures value { result ≡ answer_of (found_answer tick found) }
     ensures out_after { out.new ≡ memory (found_answer tick found) out.old }
 {
     let steps = found.used as u64;
-    let verdict = found.verdict;
-    match verdict {
-        Acceptance::Accepted => {
-            let n = put_bound(
-                out,
-                tick,
-                found.cycles,
-                found.words,
-                found.depth,
-                steps,
-                found.path,
-            );
-            Answer::Reported(n)
-        }
-        Acceptance::Refused(refusal) => Answer::Refused(refusal),
-    }
+    found.verdict?;
+    let n = put_bound(
+        out,
+        tick,
+        found.cycles,
+        found.words,
+        found.depth,
+        steps,
+        found.path,
+    );
+    Ok(n)
 }

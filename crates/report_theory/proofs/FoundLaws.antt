@@ -1,4 +1,6 @@
 -- What is answered of the figures found is the answer of the verdict that they show, and it can be printed. Assumes nothing.
+use Rattle.refusals.specs.declared.Refusal.{Refusal}
+use Rattle.std.specs.Prelude.{Result}
 use Prim.Native.Nat.{ℕ, ◌≤◌}
 use mathlib.Core.Path.{◌≡◌, ap, ◌∙◌}
 use mathlib.Core.List.{List}
@@ -16,7 +18,6 @@ use Rattle.report.specs.Report.{bound_text}
 use Rattle.report.specs.Held.{Printable, judged_as, found_answer}
 use Rattle.report.proofs.DecodeLaws.{report-of}
 use Rattle.answers.specs.Answers.{Answer, reported, memory_limit, memory, answer_of}
-use Rattle.answers.specs.declared.Answer as code
 use Rattle.report_theory.specs.Answers.{of_verdict}
 
 pub found-answer : (tick : ℕ) (f : Found) (v : bounds.Verdict) → Shows f v → found_answer tick f ≡ of_verdict (bound_text tick) v
@@ -28,7 +29,7 @@ module _ (tick n : ℕ) (f : Found) (v : bounds.Verdict) (s : Shows f v) where
   pub found-printable : Printable (of_verdict (bound_text tick) v) tick n → Printable (found_answer tick f) tick n
   found-printable p = rw (found-answer tick f v s) p
 
-  pub found-gives : (r : code.Answer) (former out : List ℕ) → (r ≡ answer_of (found_answer tick f)) × (out ≡ memory (found_answer tick f) former)
+  pub found-gives : (r : Result ℕ Refusal) (former out : List ℕ) → (r ≡ answer_of (found_answer tick f)) × (out ≡ memory (found_answer tick f) former)
       → (r ≡ answer_of (of_verdict (bound_text tick) v)) × (out ≡ memory (of_verdict (bound_text tick) v) former)
   found-gives r former out h = rw (← found-answer tick f v s) h
 

@@ -1,4 +1,5 @@
 -- A text that the bound reads, and whose cells are all single numbers or handles, is not refused by 11: the run reads it. Assumes nothing.
+use Rattle.std.specs.Prelude.{None}
 use Prim.Native.Nat.{ℕ, zero, suc, ◌+◌, ◌≤◌}
 use mathlib.Core.Path.{◌≡◌, refl, sym, ap}
 use mathlib.Core.Bool.{Bool, true, false, cond, ◌&&◌}
@@ -25,7 +26,6 @@ use Rattle.file_format.specs.declared.Role.TheVariants.{Names as names, Values a
 use Rattle.file_format.specs.declared.CellWord.{CellWord}
 use Rattle.file_format.specs.declared.CellWord.TheVariants.{Wrong, Unknown, Known, Block, Span}
 use Rattle.file_format.specs.declared.Row.TheVariants.{Layout as Layout-row, Known as known-row}
-use Rattle.file_format.specs.declared.RefusedLine.TheVariants.{Nowhere as nowhere}
 use Rattle.file_format.specs.Layout.{layout, is_answer, body, answer_roles, code_roles, body_roles, roles, text_at, list, listed, holds_cells}
 use Rattle.file_format.specs.Rows.{cell_word, cell_in_range, span_in_range, is_single, block_sizes, total, values_laid_out, column_in_range, well_named, is_laid_out, in_range, named, on_cells, all_known, test, earliest, refused_line, Passes}
 use Rattle.file_format.specs.Routine.{Routine, inside, cell_of, cells_of, blocks_in_line, start_of, routine_of, routine, or_else, checked, text_limit, limited, read_bound, read_run}
@@ -141,12 +141,12 @@ unfolding body_roles
 body-free [] = more refl none
 body-free (l ∷ ls) = more refl (code_free 1 ls)
 
-covered-nowhere : {t : Role → Line → Bool} (n : ℕ) {rs : List Role} {ls : List Line} → Covered t rs ls → earliest t n rs ls ≡ nowhere
+covered-nowhere : {t : Role → Line → Bool} (n : ℕ) {rs : List Role} {ls : List Line} → Covered t rs ls → earliest t n rs ls ≡ None
 unfolding earliest
 covered-nowhere n rest = refl
 covered-nowhere n (passed q c) = rw q (covered-nowhere (suc n) c)
 
-plain_known : (ls : List Line) → Passes ls → Plain (routine_of ls).start → refused_line known-row ls ≡ nowhere
+plain_known : (ls : List Line) → Passes ls → Plain (routine_of ls).start → refused_line known-row ls ≡ None
 unfolding refused_line roles
 plain_known ls p plain = covered-nowhere 1 (known-covered ls (body-free (body ls)) (row-covered Layout-row ls p.layout) (cells-known p plain) (fields-known p plain))
 

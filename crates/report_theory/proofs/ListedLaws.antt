@@ -1,4 +1,5 @@
 -- A call is refused in the listed cases, each by its number and at its place, and in no other. Assumes nothing.
+use Rattle.std.specs.Prelude.{Err, None, Option, Result, Some}
 use Prim.Native.Nat.{ℕ, ◌≤◌}
 use mathlib.Core.Path.{◌≡◌, refl, sym, ap, ◌∙◌}
 use mathlib.Core.Bool.{Bool, true, false, cond}
@@ -17,23 +18,19 @@ use Rattle.bound_theory.specs.Run.{judge_run, run}
 use Rattle.bound_theory.proofs.PromiseLaws.{refused-where}
 use Rattle.bound_theory.proofs.RunVerdictLaws.{run-refused-where}
 use Rattle.merge_theory.proofs.Theorems.{merged-refused-where}
-use Rattle.file_format.specs.declared.RefusedLine.{RefusedLine}
-use Rattle.file_format.specs.declared.RefusedLine.TheVariants.{Nowhere as nowhere, Line as line}
 use Rattle.file_format.specs.Rows.{refused_line}
 use Rattle.file_format.specs.Routine.{Routine, routine_of, Reading, or_else, Check, bound_checks, run_checks, checked, text_limit, limited, read_bound, read_run}
 use Rattle.file_format.specs.Routine as readings
 use Rattle.file_format.proofs.RowLaws.{read-passes}
 use Rattle.file_format.proofs.BranchLaws.{passing-forward, passing-closed}
 use Rattle.answers.specs.Answers.{Answer, reported, refused, memory_limit, of_reading, answer_of}
-use Rattle.answers.specs.declared.Answer as code
-use Rattle.answers.specs.declared.Answer.TheVariants.{Refused}
 use Rattle.report_theory.specs.Answers.{of_verdict, bound_routine, merge_routine, run_routine, bound_answer, merge_answer, run_answer}
 use Rattle.report_theory.specs.Listed.{FirstRow, this, later, ListedCase, few_bytes, long_text, row_refuses, ends, BoundRefused, MergeRefused, run_of, RunEnds, is_stuck, is_spent, RunRefused, Refuses, ListedAlone, AnswersListed}
 use Rattle.report_theory.proofs.AnswerLaws.{from-refused}
 
 -- ---- the rows
 
-no_line : {A : Type 0} (n : ℕ) → line n ≡ nowhere → A
+no_line : {A : Type 0} (n : ℕ) → Some n ≡ None → A
 no_line n e = let z : ◌≡◌ {A = ℕ} 0 1 = cc in absurd (omega arith)
 
 routine-not : {A : Type 0} (r : Refusal) (x : Routine) → readings.routine x ≡ readings.unread r → A
@@ -45,9 +42,9 @@ module _ (ls : List Line) where
   checked-first [] r e = routine-not r _ e
   checked-first (c ∷ cs) r e = go (refused_line c.row ls) refl e (checked-first cs r)
     where
-      go : (f : RefusedLine) → refused_line c.row ls ≡ f → or_else f c.refusal (checked cs ls) ≡ readings.unread r → (checked cs ls ≡ readings.unread r → FirstRow ls r cs) → FirstRow ls r (c ∷ cs)
-      go nowhere q h ih = later q (ih h)
-      go (line n) q h ih = let k : r ≡ c.refusal n = cc in this q k
+      go : (f : Option ℕ) → refused_line c.row ls ≡ f → or_else f c.refusal (checked cs ls) ≡ readings.unread r → (checked cs ls ≡ readings.unread r → FirstRow ls r cs) → FirstRow ls r (c ∷ cs)
+      go None q h ih = later q (ih h)
+      go (Some n) q h ih = let k : r ≡ c.refusal n = cc in this q k
 
   first-checked : {r : Refusal} {cs : List Check} → FirstRow ls r cs → checked cs ls ≡ readings.unread r
   unfolding checked or_else
@@ -59,9 +56,9 @@ module _ (ls : List Line) where
   none-checked [] h = refl
   none-checked (c ∷ cs) h = go (refused_line c.row ls) refl (none-checked cs)
     where
-      go : (f : RefusedLine) → refused_line c.row ls ≡ f → (((r : Refusal) → FirstRow ls r cs → ⊥) → checked cs ls ≡ readings.routine (routine_of ls)) → or_else f c.refusal (checked cs ls) ≡ readings.routine (routine_of ls)
-      go nowhere q ih = ih (λ r f. h r (later q f))
-      go (line n) q ih = absurd (h (c.refusal n) (this q refl))
+      go : (f : Option ℕ) → refused_line c.row ls ≡ f → (((r : Refusal) → FirstRow ls r cs → ⊥) → checked cs ls ≡ readings.routine (routine_of ls)) → or_else f c.refusal (checked cs ls) ≡ readings.routine (routine_of ls)
+      go None q ih = ih (λ r f. h r (later q f))
+      go (Some n) q ih = absurd (h (c.refusal n) (this q refl))
 
   checked-none : (cs : List Check) (x : Routine) → checked cs ls ≡ readings.routine x → (r : Refusal) → FirstRow ls r cs → ⊥
   checked-none cs x e r f = routine-not r x (sym e ∙ first-checked f)
@@ -179,10 +176,10 @@ answers-listed text n r = (bound-listed text n r, merge-listed text n r, run-lis
 -- ---- as it is told
 
 module _ (P : Refusal → Type 0) (a : Answer) (h : (r : Refusal) → (a ≡ refused r) ↔ P r) where
-  pub listed-alone : (told : code.Answer) → told ≡ answer_of a → ListedAlone (Refuses told) P
+  pub listed-alone : (told : Result ℕ Refusal) → told ≡ answer_of a → ListedAlone (Refuses told) P
   unfolding answer_of
   listed-alone told e n p = (λ (r, f, i, j). (r, (h r).0 (from a (sym e ∙ f)), i, j), λ (r, f, i, j). (r, e ∙ ap answer_of ((h r).1 f), i, j))
     where
-      from : (b : Answer) {r : Refusal} → answer_of b ≡ Refused r → b ≡ refused r
+      from : (b : Answer) {r : Refusal} → answer_of b ≡ Err r → b ≡ refused r
       from (reported bs) f = let z : ◌≡◌ {A = ℕ} 0 1 = cc in absurd (omega arith)
       from (refused x) {r} f = let k : x ≡ r = cc in ap refused k

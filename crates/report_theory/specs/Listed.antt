@@ -1,22 +1,20 @@
 -- When a call of the bound, of the merging bound and of the run is refused, by which number and at which place: refused in the listed cases
 -- and in no other (demand 2). (document 01, Refusal table; document 02 §8 and §9)
-use Rattle.std.specs.Prelude.{◌≤◌, ◌<◌, ◌∷◌, ◌↔◌, ◌≡◌}
+use Rattle.std.specs.Prelude.{◌≤◌, ◌<◌, ◌∷◌, ◌↔◌, ◌≡◌, Err, None, Result, Some}
 use Rattle.refusals.specs.Library.{ℕ, length, true, false, List}
 use Rattle.bound_theory.specs.Terms.{Refusal, ReportMemory, TextLength, Stuck, Spent, number, place, opening_limit, Run, begin, after, run_is_stuck, unknown, step}
-use Rattle.answers.specs.Terms.{Routine, refused, memory_limit, Line, lines, nowhere, line}
+use Rattle.answers.specs.Terms.{Routine, refused, memory_limit, Line, lines}
 use Rattle.bound_theory.specs.Traces.{Listed}
 use Rattle.merge_theory.specs.Promises.{Decides}
 use Rattle.file_format.specs.Rows.{refused_line}
 use Rattle.file_format.specs.Routine.{routine_of, Check, bound_checks, run_checks, text_limit}
-use Rattle.answers.specs.declared.Answer.TheVariants.{Refused}
-use Rattle.answers.specs.declared.Answer as code
 use Rattle.report_theory.specs.Answers.{bound_answer, merge_answer, run_answer}
 
 -- "Checked in the order of the rows, each over the whole file, earliest line first": no row before refuses a line, and n is the earliest that
 -- this one refuses
 pub data FirstRow (ls : List Line) (r : Refusal) : List Check → Type 0 where
-  this : {c : Check} {cs : List Check} {n : ℕ} → refused_line c.row ls ≡ line n → r ≡ c.refusal n → FirstRow ls r (c ∷ cs)
-  later : {c : Check} {cs : List Check} → refused_line c.row ls ≡ nowhere → FirstRow ls r cs → FirstRow ls r (c ∷ cs)
+  this : {c : Check} {cs : List Check} {n : ℕ} → refused_line c.row ls ≡ Some n → r ≡ c.refusal n → FirstRow ls r (c ∷ cs)
+  later : {c : Check} {cs : List Check} → refused_line c.row ls ≡ None → FirstRow ls r cs → FirstRow ls r (c ∷ cs)
 
 -- the refusals of a call on a text with so many bytes lent: rows 10 and 1, then the rows given, then those of its routine
 pub data ListedCase (rows : List Check) (Ends : Routine → Refusal → Type 0) (text : List ℕ) (lent : ℕ) (r : Refusal) : Type 0 where
@@ -63,8 +61,8 @@ abbrev pub Numbered : (Refusal → Type 0) → ℕ → ℕ → Type 0
 Numbered P n a = (r : Refusal) × P r × (number r ≡ n) × (place r ≡ a)
 
 -- the answer is one
-abbrev pub Refuses : code.Answer → ℕ → ℕ → Type 0
-Refuses told = Numbered (λ r. told ≡ Refused r)
+abbrev pub Refuses : Result ℕ Refusal → ℕ → ℕ → Type 0
+Refuses told = Numbered (λ r. told ≡ Err r)
 
 -- refused in the listed cases and in no other: each case with its number and its place
 abbrev pub ListedAlone : (ℕ → ℕ → Type 0) → (Refusal → Type 0) → Type 0

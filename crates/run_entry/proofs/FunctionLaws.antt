@@ -1,10 +1,9 @@
 -- What the run answers to a routine and to a text. Assumes nothing.
+use Rattle.std.specs.Prelude.{Err, Ok, Result}
 use Prim.Native.Nat.{ℕ, ◌≤◌}
 use mathlib.Core.Path.{◌≡◌, sym, ap, ◌∙◌}
 use mathlib.Core.List.{List}
 use Rattle.refusals.specs.declared.Refusal.{Refusal}
-use Rattle.refusals.specs.declared.Acceptance.TheVariants as verdicts
-use Rattle.refusals.specs.declared.Acceptance.TheVariants.{Accepted}
 use Rattle.bound_theory.specs.Tree.{Report}
 use Rattle.bound_theory.specs.Tree as bounds
 use Rattle.run_loop.specs.declared.Ran.{Ran}
@@ -16,7 +15,6 @@ use Rattle.report.specs.HeldPath.{report_of}
 use Rattle.report.proofs.DecodeLaws.{report-of-run}
 use Rattle.answers.specs.Answers.{reported, memory_limit, memory, answer_of, report_length, Delivers}
 use Rattle.answers.specs.Answers as answers
-use Rattle.answers.specs.declared.Answer as code
 use Rattle.answers.proofs.AnswerLaws.{reading-passed, delivers}
 use Rattle.report_theory.specs.Answers.{of_verdict, run_routine, run_answer}
 use Rattle.report_theory.specs.Promises.{WithinReport, RunAccepted}
@@ -29,12 +27,12 @@ use Rattle.report_theory.proofs.FoundLaws.{printable}
 -- ---- what the run's answer gives
 
 module _ (text : Report → List ℕ) (r : Ran) (v : bounds.Verdict) (e : verdict_of r ≡ v) where
-  pub ran-reported : r.verdict ≡ Accepted → of_verdict text v ≡ reported (text (report_of r.cycles r.words r.depth r.steps 1))
+  pub ran-reported : r.verdict ≡ Ok tt → of_verdict text v ≡ reported (text (report_of r.cycles r.words r.depth r.steps 1))
   unfolding verdict_of judged of_verdict
   ran-reported s =
       ap (of_verdict text) (sym e) ∙ ap (λ d. of_verdict text (judged d r)) s ∙ ap (λ z. reported (text z)) (sym (report-of-run r.cycles r.words r.depth r.steps))
 
-  pub ran-refused : (x : Refusal) → r.verdict ≡ verdicts.Refused x → of_verdict text v ≡ answers.refused x
+  pub ran-refused : (x : Refusal) → r.verdict ≡ Err x → of_verdict text v ≡ answers.refused x
   unfolding verdict_of judged of_verdict
   ran-refused x s = ap (of_verdict text) (sym e) ∙ ap (λ d. of_verdict text (judged d r)) s
 
@@ -50,7 +48,7 @@ module _ (text : List ℕ) (n : ℕ) where
 
 -- ---- the promises
 
-module _ (text : List ℕ) (n : ℕ) (former out : List ℕ) (r : code.Answer) where
+module _ (text : List ℕ) (n : ℕ) (former out : List ℕ) (r : Result ℕ Refusal) where
   -- what the equations of an answer give besides
   pub run-keeps : (r ≡ answer_of (run_answer text n)) × (out ≡ memory (run_answer text n) former) →
       (r ≡ answer_of (run_answer text n)) × ((out ≡ memory (run_answer text n) former)

@@ -10,13 +10,12 @@ ghost use Rattle.report_theory.specs.Answers.{run_routine, run_answer};
 ghost use Rattle.report_theory.specs.Promises.{WithinReport, RunAccepted};
 ghost use Rattle.report_theory.specs.Listed.{RunRefused, Refuses, ListedAlone};
 
-use answers::Answer;
 use file_check::Reader;
 use file_reader::Routine;
-use refusals::Acceptance;
+use refusals::Refusal;
 
 // The answer of the run to a routine.
-fn run_routine(routine: Routine, out: &mut [u8]) -> Answer
+fn run_routine(routine: Routine, out: &mut [u8]) -> Result<usize, Refusal>
     requires limited { Limited routine }
     requires printable { Printable (run_routine (routine_in routine)) routine.tick (length out.old) }
     ensures value { result ≡ answer_of (run_routine (routine_in routine)) }
@@ -25,30 +24,19 @@ fn run_routine(routine: Routine, out: &mut [u8]) -> Answer
     let ran = routine_figures::ran(routine);
     let steps = ran.steps as u64;
     let depth = ran.depth as u64;
-    let verdict = ran.verdict;
-    match verdict {
-        Acceptance::Accepted => {
-            let n = report::put_run(out, ran.cycles, ran.words, depth, steps);
-            Answer::Reported(n)
-        }
-        Acceptance::Refused(refusal) => Answer::Refused(refusal),
-    }
+    ran.verdict?;
+    Ok(report::put_run(out, ran.cycles, ran.words, depth, steps))
 }
 
 // The run of a routine file: the report in the lent memory, or a refusal.
-pub fn run(text: &[u8], out: &mut [u8]) -> Answer
+pub fn run(text: &[u8], out: &mut [u8]) -> Result<usize, Refusal>
     ensures value { result ≡ answer_of (run_answer text.now (length out.old)) }
     ensures out_after { out.new ≡ memory (run_answer text.now (length out.old)) out.old }
     ensures within { Delivers (report_length result) out.new (WithinReport text.now) }
     ensures accepts { RunAccepted text.now (length out.old) (report_length result) }
     ensures listed { ListedAlone (Refuses result) (RunRefused text.now (length out.old)) }
 {
-    let verdict = file_entry::check(Reader::Run, 128, out.len(), text);
-    match verdict {
-        Acceptance::Accepted => {
-            let routine = file_reader::routine_of(text);
-            run_routine(routine, out)
-        }
-        Acceptance::Refused(refusal) => Answer::Refused(refusal),
-    }
+    file_entry::check(Reader::Run, 128, out.len(), text)?;
+    let routine = file_reader::routine_of(text);
+    run_routine(routine, out)
 }

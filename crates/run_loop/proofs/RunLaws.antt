@@ -1,4 +1,6 @@
 -- The run's loop, apart from its code: its answers, what holds at each turn, what each way out gives, and its verdict. Assumes nothing.
+use Rattle.refusals.specs.declared.Refusal.{Refusal}
+use Rattle.std.specs.Prelude.{Err, Ok, Result, ⊤, None, Option, Some}
 use mathlib.Core.Path.{◌≡◌, refl, sym, ap, subst, ◌∙◌}
 use mathlib.Core.Bool.{Bool, true, false}
 use mathlib.Core.List.{List, [], ◌∷◌}
@@ -8,8 +10,6 @@ use native.Mathlib.Numerals.{add-one}
 use lib.IntN.{ℤ, pos}
 use lib.ListN.{length, get_or, drop, set}
 use borrow.Author.Tests.{lt-ltb, le-ltb}
-use Rattle.refusals.specs.declared.Acceptance as code
-use Rattle.refusals.specs.declared.Acceptance.TheVariants.{Accepted, Refused}
 use Rattle.refusals.specs.declared.Refusal.TheVariants.{Stuck, Spent}
 use Rattle.cells.specs.declared.Cell.{Cell}
 use Rattle.cells.specs.Cells.{exactly}
@@ -24,8 +24,6 @@ use Rattle.bound_theory.proofs.PromiseLaws.{interruptible, run-within-bound}
 use Rattle.machine_step.specs.declared.Price.{Price}
 use Rattle.machine_step.specs.declared.Next as next
 use Rattle.machine_step.specs.declared.Next.TheVariants as leads-to
-use Rattle.machine_step.specs.declared.Update.{Update}
-use Rattle.machine_step.specs.declared.Update.TheVariants.{Nothing, Field}
 use Rattle.machine_step.specs.HeldStep.{SmallPrice, of_next, Differs}
 use Rattle.run_loop.specs.declared.Progress.{Progress}
 use Rattle.run_loop.specs.declared.Ran.{Ran}
@@ -99,10 +97,6 @@ pub record Takes (calls : Bool) (taken k : ℕ) : Type 0 where
   pub few : k ≤ suc taken
 
 module _ (c : Code) (ns : List ℕ) (answers : List ℤ) (b : Run) (n : ℕ) (r : Progress) (i : Going c ns answers b n r) where
-  -- the loop has made all steps
-  pub ends : n ≤ r.steps → of_progress ns answers r ≡ after c n b
-  ends h = let e : r.steps ≡ n = omega (arith, i.within) in i.is ∙ ap (λ k. after c k b) e
-
   -- the step that the run is at leads to x, with the state t and the blocks fs, and takes an answer or not
   module _ (x : next.Next) (t : states.State) (fs : List Cell) (calls : Bool) (a : Cell) (asked : a ≡ answer (drop r.taken answers))
       (makes : of_next x (whole ns fs t) ≡ step c a (whole ns r.blocks r.state)) (takes : calls ≡ takes_answer c (whole ns r.blocks r.state)) where
@@ -165,27 +159,27 @@ module _ (c : Code) (ns : List ℕ) (answers : List ℤ) (b : Run) (n : ℕ) (r 
 
 -- ---- the blocks that a step left
 
-pub set-one : (x : Update) (fs gs : List Cell) (j : ℕ) (c : Cell) → Differs x fs gs → x ≡ Field j c → (j < 128) × (gs ≡ set fs j c)
+pub set-one : (x : Option (ℕ × Cell)) (fs gs : List Cell) (j : ℕ) (c : Cell) → Differs x fs gs → x ≡ Some (j, c) → (j < 128) × (gs ≡ set fs j c)
 set-one x fs gs j c d e = subst (λ y. Differs y fs gs) e d
 
-pub set-none : (x : Update) (fs gs : List Cell) → Differs x fs gs → x ≡ Nothing → gs ≡ fs
+pub set-none : (x : Option (ℕ × Cell)) (fs gs : List Cell) → Differs x fs gs → x ≡ None → gs ≡ fs
 set-none x fs gs d e = subst (λ y. Differs y fs gs) e d
 
 -- ---- the verdict
 
-abbrev pub ran : Progress → code.Acceptance → Ran
+abbrev pub ran : Progress → Result ⊤ Refusal → Ran
 ran r v = record { verdict = v; cycles = r.cycles; words = r.words; depth = r.depth; steps = r.steps }
 
 module _ (ns : List ℕ) (answers : List ℤ) (budget : ℕ) (r : Progress) where
-  pub stopped-judged : r.stopped ≡ true → verdict_of (ran r Accepted) ≡ judge_run budget (of_progress ns answers r)
+  pub stopped-judged : r.stopped ≡ true → verdict_of (ran r (Ok tt)) ≡ judge_run budget (of_progress ns answers r)
   unfolding verdict_of judged judge_run of_progress
   stopped-judged h = rw h refl
 
-  pub stuck-judged : r.stopped ≡ false → r.steps < budget → verdict_of (ran r (Refused (Stuck r.state.at))) ≡ judge_run budget (of_progress ns answers r)
+  pub stuck-judged : r.stopped ≡ false → r.steps < budget → verdict_of (ran r (Err (Stuck r.state.at))) ≡ judge_run budget (of_progress ns answers r)
   unfolding verdict_of judged judge_run of_progress whole reblock
   stuck-judged h l = rw (h, lt-ltb r.steps budget l) refl
 
-  pub spent-judged : r.stopped ≡ false → budget ≤ r.steps → verdict_of (ran r (Refused (Spent r.state.at))) ≡ judge_run budget (of_progress ns answers r)
+  pub spent-judged : r.stopped ≡ false → budget ≤ r.steps → verdict_of (ran r (Err (Spent r.state.at))) ≡ judge_run budget (of_progress ns answers r)
   unfolding verdict_of judged judge_run of_progress whole reblock
   spent-judged h l = rw (h, le-ltb r.steps budget l) refl
 

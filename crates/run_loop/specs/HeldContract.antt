@@ -1,9 +1,8 @@
 -- What is asked of the run, and what is promised of it.
-use Rattle.std.specs.Prelude.{◌≤◌, ◌≡◌}
+use Rattle.refusals.specs.declared.Refusal.{Refusal}
+use Rattle.std.specs.Prelude.{◌≤◌, ◌≡◌, Err, Ok, Result, ⊤}
 use Rattle.refusals.specs.Library.{ℕ, ℤ, List, []}
 use Rattle.bound_theory.specs.Terms.{Report, Verdict, accepted, refused, bound, Run, begin, Allowed, State, Code, Cellwise}
-use Rattle.refusals.specs.declared.Acceptance.TheVariants.{Accepted, Refused}
-use Rattle.refusals.specs.declared.Acceptance as code
 use Rattle.machine_state.specs.HeldState.{WellFormed}
 use Rattle.machine_state.specs.declared.State as states
 use Rattle.bound_theory.specs.Promises.{NoGreater, Safe}
@@ -15,9 +14,9 @@ pub record Runnable (start : states.State) (n : ℕ) : Type 0 where
   pub steps : n ≤ 1000000
 
 -- the verdict of a case, with the figures of r where it is accepted
-unfoldable pub judged : code.Acceptance → Ran → Verdict
-judged Accepted r = accepted (record { cycles = r.cycles; words = r.words; depth = r.depth; steps = r.steps; path = [] })
-judged (Refused x) r = refused x
+unfoldable pub judged : Result ⊤ Refusal → Ran → Verdict
+judged (Ok tt) r = accepted (record { cycles = r.cycles; words = r.words; depth = r.depth; steps = r.steps; path = [] })
+judged (Err x) r = refused x
 
 -- the verdict on a run
 unfoldable pub verdict_of : Ran → Verdict

@@ -10,8 +10,8 @@ ghost use Rattle.run_loop.specs.HeldContract.{Runnable, verdict_of, SafeFrom, Wi
 
 use cells::Cell;
 use machine_state::State;
-use machine_step::{Next, Update};
-use refusals::{Acceptance, Refusal};
+use machine_step::Next;
+use refusals::Refusal;
 
 // A run so far: its state and its blocks, how many answers its calls asked for, its sums, and whether STOP was made.
 #[derive(Clone, Copy)]
@@ -29,7 +29,7 @@ pub struct Progress {
 // What a run comes to, with its figures.
 #[derive(Clone, Copy)]
 pub struct Ran {
-    pub verdict: Acceptance,
+    pub verdict: Result<(), Refusal>,
     pub cycles: u64,
     pub words: u64,
     pub depth: usize,
@@ -99,8 +99,7 @@ pub fn after(
     let mut spent: u64 = 0;
     let mut sum: u64 = 0;
     let mut depth = 64 - start.free;
-    let mut made = 0;
-    while made < n {
+    for made in 0..n {
         let answer = answer_at(answers, taken);
         let stepped = machine_step::step(code, answer, state, blocks);
         let next = stepped.next;
@@ -123,12 +122,11 @@ pub fn after(
         }
         // the blocks become those of the step, of which none but the field that was set is written
         let change = stepped.change;
-        if let Update::Field(j, c) = change {
+        if let Some((j, c)) = change {
             blocks[j] = c;
         }
-        made += 1;
     }
-    so_far(state, blocks, taken, spent, sum, depth, made, false)
+    so_far(state, blocks, taken, spent, sum, depth, n, false)
 }
 
 // The verdict on the run that `budget` steps leave.
@@ -137,11 +135,11 @@ fn judge(r: Progress, budget: usize) -> Ran
 {
     let state = r.state;
     let verdict = if r.stopped {
-        Acceptance::Accepted
+        Ok(())
     } else if r.steps < budget {
-        Acceptance::Refused(Refusal::Stuck(state.at))
+        Err(Refusal::Stuck(state.at))
     } else {
-        Acceptance::Refused(Refusal::Spent(state.at))
+        Err(Refusal::Spent(state.at))
     };
     Ran {
         verdict: verdict,

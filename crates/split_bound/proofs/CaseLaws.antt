@@ -1,4 +1,5 @@
 -- A cut that divides its cell and one that does not, as the code finds it, and what is found of two cases. Assumes nothing.
+use Rattle.std.specs.Prelude.{Err, Ok, Result, ⊤}
 use Prim.Native.Nat.{ℕ, suc, ◌+◌, ◌-◌, ◌<◌}
 use mathlib.Core.Path.{◌≡◌, refl, sym, ap, ap₂, subst, ◌∙◌}
 use mathlib.Core.Bool.{Bool, true, false, cond}
@@ -6,8 +7,6 @@ use mathlib.Core.List.{List, [], ◌∷◌}
 use native.Mathlib.Omega.{arith}
 use lib.IntN.{ℤ}
 use Rattle.refusals.specs.declared.Refusal.{Refusal}
-use Rattle.refusals.specs.declared.Acceptance as code
-use Rattle.refusals.specs.declared.Acceptance.TheVariants.{Accepted, Refused}
 use Rattle.cells.specs.Try.{Try, stuck, done}
 use Rattle.cells.specs.declared.Value.{Value}
 use Rattle.cells.specs.declared.Cell.{Cell}
@@ -160,7 +159,7 @@ module _ (c : Code) (x : Cut) (xs : List Cut) (s : State) where
 pub shows : (f : Found) {v w : Verdict} → v ≡ w → Shows f v → Shows f w
 shows f e h = subst (Shows f) e h
 
-pub first-refused : (f : Found) (x : Refusal) (v w : Verdict) → f.verdict ≡ Refused x → Shows f v → Shows f (larger v w)
+pub first-refused : (f : Found) (x : Refusal) (v w : Verdict) → f.verdict ≡ Err x → Shows f v → Shows f (larger v w)
 unfolding larger accepted_as
 first-refused f x (accepted q) w e h = absurd (let g = ap (λ (r : Found). r.verdict) h in let z : ◌≡◌ {A = ℕ} 0 1 = cc in omega arith)
 first-refused f x (refused y) w e h = h
@@ -168,10 +167,10 @@ first-refused f x (refused y) w e h = h
 larger-by : (f g : Found) (q : Report) (w : Verdict) → f ≡ accepted_as q → Shows g w → Shows (larger_by f g g.verdict) (larger (accepted q) w)
 unfolding larger largest larger_by accepted_as encode
 larger-by f g q (accepted r) e h =
-    ap (larger_by f g) (ap (λ (t : Found). t.verdict) h) ∙ ap₂ (λ a b. larger_by a b Accepted) e h
+    ap (larger_by f g) (ap (λ (t : Found). t.verdict) h) ∙ ap₂ (λ a b. larger_by a b (Ok tt)) e h
 larger-by f g q (refused y) e h = ap (λ v. (larger_by f g v).verdict) h ∙ h
 
-pub larger-shown : (f g : Found) (v w : Verdict) → f.verdict ≡ Accepted → Shows f v → Shows g w → Shows (larger_of f g) (larger v w)
+pub larger-shown : (f g : Found) (v w : Verdict) → f.verdict ≡ Ok tt → Shows f v → Shows g w → Shows (larger_of f g) (larger v w)
 unfolding larger_of
 larger-shown f g (accepted q) w a h k = larger-by f g q w h k
 larger-shown f g (refused y) w a h k = absurd (let z : ◌≡◌ {A = ℕ} 0 1 = cc in omega arith)
@@ -180,12 +179,12 @@ pub larger-figures : (f g : Found) → Figures 1025 f → Figures 1025 g → Fig
 unfolding larger_of larger_by
 larger-figures f g a b = go g.verdict
   where
-    go : (v : code.Acceptance) → Figures 1025 (larger_by f g v)
-    go Accepted =
+    go : (v : Result ⊤ Refusal) → Figures 1025 (larger_by f g v)
+    go (Ok tt) =
         record {
           used = omega (arith, a.used, b.used);
           cycles = omega (arith, a.cycles, b.cycles);
           words = omega (arith, a.words, b.words);
           depth = omega (arith, a.depth, b.depth);
         }
-    go (Refused x) = b
+    go (Err x) = b

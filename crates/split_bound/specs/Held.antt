@@ -1,9 +1,8 @@
 -- What the internal functions are handed, and what they answer.
-use Rattle.std.specs.Prelude.{◌+◌, ◌≤◌, ◌≡◌}
+use Rattle.refusals.specs.declared.Refusal.{Refusal}
+use Rattle.std.specs.Prelude.{◌+◌, ◌≤◌, ◌≡◌, Err, Ok, Result, ⊤}
 use Rattle.refusals.specs.Library.{ℕ, max, ℤ, length, cond, List}
 use Rattle.machine.specs.Terms.{Try, done, stuck, Value, Cell, Cellwise}
-use Rattle.refusals.specs.declared.Acceptance.{Acceptance}
-use Rattle.refusals.specs.declared.Acceptance.TheVariants.{Accepted, Refused}
 use Rattle.cells.specs.HeldConfined.{Kept}
 use Rattle.machine_state.specs.declared.State.{State}
 use Rattle.machine_state.specs.HeldProgram.{first_address_of, lines_in, sizes_of, IsProgram}
@@ -41,16 +40,16 @@ pub record Replaced (code : List ℕ) (start : State) (fields : List Cell) (p : 
   pub at : r.start.at ≡ start.at
 
 -- what is found of two cases, of which the first is accepted: the refusal of the second, or the larger figures
-unfoldable pub larger_by : Found → Found → Acceptance → Found
-larger_by f g Accepted = record {
-  verdict = Accepted;
+unfoldable pub larger_by : Found → Found → Result ⊤ Refusal → Found
+larger_by f g (Ok tt) = record {
+  verdict = Ok tt;
   used = max f.used g.used;
   cycles = max f.cycles g.cycles;
   words = max f.words g.words;
   depth = max f.depth g.depth;
   path = 1;
 }
-larger_by f g (Refused x) = g
+larger_by f g (Err x) = g
 
 unfoldable pub larger_of : Found → Found → Found
 larger_of f g = larger_by f g g.verdict

@@ -16,9 +16,8 @@ ghost use Rattle.split_bound.specs.Held.{parts_of, parts_at, Splittable, Replace
 
 use bound_figures::Found;
 use cells::{Cell, Value};
-use machine_state::{Slot, State};
+use machine_state::State;
 use nearest_changes::Position;
-use refusals::Acceptance;
 use split_theory::Cuts;
 
 // What a number makes of a cell: its two parts, or nothing.
@@ -69,7 +68,7 @@ fn parts_at(code: &[u32; 5131], start: State, blocks: [Cell; 128], p: Position, 
         }
         Position::Field(b, k) => {
             let field = machine_state::slot_of(code, cells::handle(b), k);
-            let Slot::At(j) = field else {
+            let Some(j) = field else {
                 return Parts::Whole;
             };
             parts_of(blocks[j], n)
@@ -82,15 +81,15 @@ fn larger(f: Found, g: Found) -> Found
     ensures { result ≡ larger_of f g }
 {
     let verdict = g.verdict;
-    let Acceptance::Accepted = verdict else {
+    let Ok(()) = verdict else {
         return g;
     };
-    let cycles = bound_figures::larger(f.cycles, g.cycles);
-    let words = bound_figures::larger(f.words, g.words);
-    let depth = bound_figures::larger(f.depth, g.depth);
-    let used = bound_figures::larger(f.used as u64, g.used as u64);
+    let cycles = f.cycles.max(g.cycles);
+    let words = f.words.max(g.words);
+    let depth = f.depth.max(g.depth);
+    let used = (f.used as u64).max(g.used as u64);
     Found {
-        verdict: Acceptance::Accepted,
+        verdict: Ok(()),
         used: used as usize,
         cycles: cycles,
         words: words,
@@ -165,7 +164,7 @@ pub fn split(
     let held = below.blocks;
     let first = split(code, cuts, i + 1, state, held, rows);
     let verdict = first.verdict;
-    let Acceptance::Accepted = verdict else {
+    let Ok(()) = verdict else {
         return first;
     };
     let from = case_at(code, cuts, i, start, blocks, upper);

@@ -1,5 +1,6 @@
 -- Laws of the text of the cuts: its tests by the index of a line, its refusals with their places, and the cuts that an accepted text lists.
 -- Assumes nothing.
+use Rattle.std.specs.Prelude.{Err, Ok, Option}
 use Prim.Native.Nat.{ℕ, zero, suc, ◌+◌, ◌-◌, ◌<◌, ◌≤◌}
 use mathlib.Core.Path.{◌≡◌, refl, sym, ap, ◌∙◌}
 use mathlib.Core.Bool.{Bool, true, false, cond, not, ◌&&◌}
@@ -8,11 +9,9 @@ use native.Mathlib.Omega.{arith}
 use borrow.Author.Tests.{lt-ltb, le-ltb}
 use lib.ListN.{length}
 use Rattle.refusals.specs.declared.Refusal.TheVariants.{TextLength, Layout, OutOfRange, BadName}
-use Rattle.refusals.specs.declared.Acceptance.TheVariants.{Accepted as accepted, Refused as refused}
 use Rattle.text.specs.Text.{bytes, is_empty, equals, Line, lines, among}
 use Rattle.text.proofs.LineLaws.{lines_none, lines-some}
 use Rattle.numbers.specs.Numbers.{within, numbers}
-use Rattle.file_format.specs.declared.RefusedLine.{RefusedLine}
 use Rattle.file_format.specs.Rows.{value}
 use Rattle.file_lines.proofs.LineLaws.{filled}
 use Rattle.replay_trace.specs.Traces.{earliest, refused_at}
@@ -77,16 +76,16 @@ among-both w (x ∷ xs) ys = go (equals w x) (among-both w xs ys)
 -- ---- the refusals
 
 module _ (ns : List (List ℕ)) (text : List ℕ) where
-  pub check-long : cuts_limit < length text → refused TextLength ≡ cuts_acceptance ns text
+  pub check-long : cuts_limit < length text → Err TextLength ≡ cuts_acceptance ns text
   unfolding cuts_acceptance
-  check-long h = sym (ap (λ b. cond b (refused TextLength) (line_verdict ns (lines text))) (lt-ltb cuts_limit (length text) h))
+  check-long h = sym (ap (λ b. cond b (Err TextLength) (line_verdict ns (lines text))) (lt-ltb cuts_limit (length text) h))
 
   module _ (short : length text ≤ cuts_limit) where
     by_lines : cuts_acceptance ns text ≡ line_verdict ns (lines text)
     unfolding cuts_acceptance
-    by_lines = ap (λ b. cond b (refused TextLength) (line_verdict ns (lines text))) (le-ltb cuts_limit (length text) short)
+    by_lines = ap (λ b. cond b (Err TextLength) (line_verdict ns (lines text))) (le-ltb cuts_limit (length text) short)
 
-    pub check-empty : length text ≡ 0 → refused (Layout 1) ≡ cuts_acceptance ns text
+    pub check-empty : length text ≡ 0 → Err (Layout 1) ≡ cuts_acceptance ns text
     unfolding line_verdict layout_fault refused_at
     check-empty e = sym (by_lines ∙ ap (line_verdict ns) (lines_none text (omega arith)))
 
@@ -96,9 +95,9 @@ module _ (ns : List (List ℕ)) (text : List ℕ) where
       layout-some [] h = absurd (omega arith)
       layout-some (l ∷ ls) h = refl
 
-      pub by_rows : {a b d : RefusedLine} → earliest line_laid_out 0 (lines text) ≡ a → earliest line_in_range 0 (lines text) ≡ b → earliest (line_named ns) 0 (lines text) ≡ d
-          → refused_at a Layout (refused_at b OutOfRange (refused_at d BadName accepted)) ≡ cuts_acceptance ns text
+      pub by_rows : {a b d : Option ℕ} → earliest line_laid_out 0 (lines text) ≡ a → earliest line_in_range 0 (lines text) ≡ b → earliest (line_named ns) 0 (lines text) ≡ d
+          → refused_at a Layout (refused_at b OutOfRange (refused_at d BadName (Ok tt))) ≡ cuts_acceptance ns text
       unfolding line_verdict
       by_rows p q r =
           sym (by_lines
-          ∙ (λ i. refused_at ((layout-some (lines text) (lines-some text (omega arith)) ∙ p) i) Layout (refused_at (q i) OutOfRange (refused_at (r i) BadName accepted))))
+          ∙ (λ i. refused_at ((layout-some (lines text) (lines-some text (omega arith)) ∙ p) i) Layout (refused_at (q i) OutOfRange (refused_at (r i) BadName (Ok tt)))))

@@ -1,10 +1,9 @@
 -- The text of the cuts: which refusal it has, and the cuts that it lists. (docs/DECISIONS.md, The bound by cases)
 -- Every definition is total: what an accepted text never needs is 0 or empty.
-use Rattle.std.specs.Prelude.{◌&&◌, ◌∷◌}
+use Rattle.refusals.specs.declared.Refusal.{Refusal}
+use Rattle.std.specs.Prelude.{◌&&◌, ◌∷◌, Err, Ok, Option, Result, Some, ⊤}
 use Rattle.refusals.specs.Library.{ℕ, zero, suc, eqb, ltb, ℤ, length, get_or, drop, Bool, true, cond, not, List, [], map}
-use Rattle.answers.specs.Terms.{TextLength, Layout, OutOfRange, BadName, bytes, Line, lines, line_words, is_empty, equals, find, numeral, RefusedLine, line}
-use Rattle.refusals.specs.declared.Acceptance.{Acceptance}
-use Rattle.refusals.specs.declared.Acceptance.TheVariants.{Accepted as accepted, Refused as refused}
+use Rattle.answers.specs.Terms.{TextLength, Layout, OutOfRange, BadName, bytes, Line, lines, line_words, is_empty, equals, find, numeral}
 use Rattle.numbers.specs.Numbers.{within, numbers}
 use Rattle.text.specs.Text.{among}
 use Rattle.file_format.specs.Rows.{is_numeral, value}
@@ -70,18 +69,18 @@ line_named ns k l = text_named ns k l.text
 -- ---- the refusals
 
 -- a text with no line lacks its names line
-unfoldable pub layout_fault : List Line → RefusedLine
-layout_fault [] = line 1
+unfoldable pub layout_fault : List Line → Option ℕ
+layout_fault [] = Some 1
 layout_fault (l ∷ ls) = earliest line_laid_out 0 (l ∷ ls)
 
 -- 2, 3 and 4, each over all lines, with the line as the place; ns are the names of the routine's cells
-unfoldable pub line_verdict : List (List ℕ) → List Line → Acceptance
+unfoldable pub line_verdict : List (List ℕ) → List Line → Result ⊤ Refusal
 line_verdict ns ls =
-    refused_at (layout_fault ls) Layout (refused_at (earliest line_in_range 0 ls) OutOfRange (refused_at (earliest (line_named ns) 0 ls) BadName accepted))
+    refused_at (layout_fault ls) Layout (refused_at (earliest line_in_range 0 ls) OutOfRange (refused_at (earliest (line_named ns) 0 ls) BadName (Ok tt)))
 
 -- 1 comes first: over 4,096 bytes, at place 0
-unfoldable pub cuts_acceptance : List (List ℕ) → List ℕ → Acceptance
-cuts_acceptance ns text = cond (ltb cuts_limit (length text)) (refused TextLength) (line_verdict ns (lines text))
+unfoldable pub cuts_acceptance : List (List ℕ) → List ℕ → Result ⊤ Refusal
+cuts_acceptance ns text = cond (ltb cuts_limit (length text)) (Err TextLength) (line_verdict ns (lines text))
 
 -- ---- the cuts
 

@@ -9,8 +9,7 @@ ghost use Rattle.split_theory.specs.Held.{cuts_from, Few};
 ghost use Rattle.split_cuts.specs.Cuts.{cuts_limit, cut_laid_out, text_laid_out, line_laid_out, text_in_range, text_named, cuts_acceptance, place_number, cut_number, cuts_of};
 ghost use Rattle.split_cuts.specs.HeldScan.{line_test};
 
-use file_format::RefusedLine;
-use refusals::{Acceptance, Refusal};
+use refusals::Refusal;
 use split_theory::Cuts;
 
 // What a line is tested for: row 2, row 3 or row 4 of the refusal table.
@@ -105,47 +104,48 @@ fn passes(test: LineTest, k: usize, rest: &[u8], cells: &[u8], fields: &[u8]) ->
 }
 
 // The earliest line that fails a test, counted from 1.
-fn earliest(test: LineTest, cuts: &[u8], cells: &[u8], fields: &[u8]) -> RefusedLine
+fn earliest(test: LineTest, cuts: &[u8], cells: &[u8], fields: &[u8]) -> Option<u32>
     requires { length cuts.now ≤ cuts_limit }
     ensures { result ≡ earliest (line_test test (list cells.now ++ list fields.now)) 0 (lines cuts.now) }
 {
     let mut rest = cuts;
     let mut passed: usize = 0;
+    // A while: the lines of a text are met by cutting off the first, and how many there are is known only at its end.
     while 0 < rest.len() {
         if passes(test, passed, rest, cells, fields) {
             let next = text::next_lines(rest);
             rest = next;
             passed += 1;
         } else {
-            return RefusedLine::Line((passed + 1) as u32);
+            return Some((passed + 1) as u32);
         }
     }
-    RefusedLine::Nowhere
+    None
 }
 
 // The refusal of the cuts, where `cells` and `fields` are the routine's lines of the names of its cells.
-pub fn check_cuts(cuts: &[u8], cells: &[u8], fields: &[u8]) -> Acceptance
+pub fn check_cuts(cuts: &[u8], cells: &[u8], fields: &[u8]) -> Result<(), Refusal>
     ensures { result ≡ cuts_acceptance (list cells.now ++ list fields.now) cuts.now }
 {
     if 4096 < cuts.len() {
-        return Acceptance::Refused(Refusal::TextLength);
+        return Err(Refusal::TextLength);
     }
     if cuts.len() == 0 {
-        return Acceptance::Refused(Refusal::Layout(1));
+        return Err(Refusal::Layout(1));
     }
     let layout = earliest(LineTest::Layout, cuts, cells, fields);
-    if let RefusedLine::Line(n) = layout {
-        return Acceptance::Refused(Refusal::Layout(n));
+    if let Some(n) = layout {
+        return Err(Refusal::Layout(n));
     }
     let range = earliest(LineTest::Range, cuts, cells, fields);
-    if let RefusedLine::Line(n) = range {
-        return Acceptance::Refused(Refusal::OutOfRange(n));
+    if let Some(n) = range {
+        return Err(Refusal::OutOfRange(n));
     }
     let name = earliest(LineTest::Name, cuts, cells, fields);
-    if let RefusedLine::Line(n) = name {
-        return Acceptance::Refused(Refusal::BadName(n));
+    if let Some(n) = name {
+        return Err(Refusal::BadName(n));
     }
-    Acceptance::Accepted
+    Ok(())
 }
 
 // The number of the place that a name stands for.
@@ -174,6 +174,7 @@ pub fn cuts_of(cuts: &[u8]) -> Cuts
     let mut numbers = [0i32; 16];
     let mut rest = text::next_lines(cuts);
     let mut n = 0;
+    // A while: the lines of a text are met by cutting off the first, and how many there are is known only at its end.
     while 0 < rest.len() {
         let line = text::first_line(rest);
         let k = place_of(text::word_at(line, 0));

@@ -1,4 +1,5 @@
 -- What the bound by cases answers to a routine and to two texts, and how large that is. Assumes nothing.
+use Rattle.std.specs.Prelude.{Err, Ok, Result, ⊤}
 use Prim.Native.Nat.{ℕ, ◌≤◌}
 use mathlib.Core.Path.{◌≡◌, refl, sym, ap, ◌∙◌}
 use mathlib.Core.List.{List}
@@ -6,8 +7,6 @@ use native.Mathlib.Omega.{arith}
 use lib.ListN.{length}
 use Rattle.refusals.specs.declared.Refusal.{Refusal}
 use Rattle.refusals.specs.Refusals.{place}
-use Rattle.refusals.specs.declared.Acceptance as checks
-use Rattle.refusals.specs.declared.Acceptance.TheVariants.{Accepted, Refused}
 use Rattle.text.specs.Text.{lines}
 use Rattle.bound_theory.specs.Tree.{Report, Verdict}
 use Rattle.bound_theory.specs.Tree as verdicts
@@ -34,11 +33,11 @@ use Rattle.split_entry.proofs.SizeLaws.{split-limited, split-place}
 -- ---- the cuts
 
 module _ (text cuts : List ℕ) (x : Routine) where
-  pub cuts-passed : cuts_checked text cuts ≡ Accepted → split_routine text cuts x ≡ cases_routine cuts x
+  pub cuts-passed : cuts_checked text cuts ≡ Ok tt → split_routine text cuts x ≡ cases_routine cuts x
   unfolding split_routine checked
   cuts-passed e = ap (λ v. checked v (cases_routine cuts x)) e
 
-  pub cuts-refused : (r : Refusal) → cuts_checked text cuts ≡ Refused r → split_routine text cuts x ≡ refused r
+  pub cuts-refused : (r : Refusal) → cuts_checked text cuts ≡ Err r → split_routine text cuts x ≡ refused r
   unfolding split_routine checked
   cuts-refused r e = ap (λ v. checked v (cases_routine cuts x)) e
 
@@ -70,7 +69,7 @@ pub record FromSplit (text cuts : List ℕ) (n : ℕ) (bs : List ℕ) : Type 0 w
   pub lent : memory_limit ≤ n
   pub routine : Routine
   pub reads : read_bound text ≡ readings.routine routine
-  pub passes : cuts_checked text cuts ≡ Accepted
+  pub passes : cuts_checked text cuts ≡ Ok tt
   pub gives : FromCases cuts routine bs
 
 pub from-split : (text cuts : List ℕ) (n : ℕ) (bs : List ℕ) → split_answer text cuts n ≡ reported bs → FromSplit text cuts n bs
@@ -79,9 +78,9 @@ from-split text cuts n bs e =
     let a = from-reading (split_routine text cuts) (read_bound text) memory_limit n bs e in
     go a.lent a.routine a.reads (cuts_checked text cuts) refl a.gives
   where
-    go : memory_limit ≤ n → (x : Routine) → read_bound text ≡ readings.routine x → (v : checks.Acceptance) → cuts_checked text cuts ≡ v → checked v (cases_routine cuts x) ≡ reported bs → FromSplit text cuts n bs
-    go l x reads Accepted h e = record { lent = l; routine = x; reads = reads; passes = h; gives = from-cases cuts x bs e }
-    go l x reads (Refused r) h e = never r bs e
+    go : memory_limit ≤ n → (x : Routine) → read_bound text ≡ readings.routine x → (v : Result ⊤ Refusal) → cuts_checked text cuts ≡ v → checked v (cases_routine cuts x) ≡ reported bs → FromSplit text cuts n bs
+    go l x reads (Ok tt) h e = record { lent = l; routine = x; reads = reads; passes = h; gives = from-cases cuts x bs e }
+    go l x reads (Err r) h e = never r bs e
 
 -- ---- how large a report is, and where a refusal is
 
@@ -114,6 +113,6 @@ module _ (text cuts : List ℕ) (n : ℕ) where
   split-refusal-place r =
       place-from 62000 (split_routine text cuts) (read_bound text) memory_limit n r (λ r e. omega (arith, read-bound-place text r e)) (λ x e f. let (passes, is, short) = read-passes text x e in go x passes is (cuts_checked text cuts) refl f)
     where
-      go : (x : Routine) → Passes (lines text) → x ≡ routine_of (lines text) → (v : checks.Acceptance) → cuts_checked text cuts ≡ v → checked v (cases_routine cuts x) ≡ refused r → place r ≤ 62000
-      go x passes is Accepted h e = split-place text x passes is (cuts_of cuts) r (from-refused (bound_text x.tick) (split x.code (cuts_of cuts) x.start) r e)
-      go x passes is (Refused y) h e = let g : y ≡ r = cc in omega (arith, cuts-place _ cuts r (h ∙ ap Refused g))
+      go : (x : Routine) → Passes (lines text) → x ≡ routine_of (lines text) → (v : Result ⊤ Refusal) → cuts_checked text cuts ≡ v → checked v (cases_routine cuts x) ≡ refused r → place r ≤ 62000
+      go x passes is (Ok tt) h e = split-place text x passes is (cuts_of cuts) r (from-refused (bound_text x.tick) (split x.code (cuts_of cuts) x.start) r e)
+      go x passes is (Err y) h e = let g : y ≡ r = cc in omega (arith, cuts-place _ cuts r (h ∙ ap Err g))

@@ -1,9 +1,10 @@
 -- What the equations of an answer of the bound by cases give besides. Assumes nothing.
+use Rattle.refusals.specs.declared.Refusal.{Refusal}
+use Rattle.std.specs.Prelude.{Result}
 use Prim.Native.Nat.{ℕ}
 use mathlib.Core.Path.{◌≡◌}
 use mathlib.Core.List.{List}
 use Rattle.answers.specs.Answers.{memory, answer_of, report_length, Delivers}
-use Rattle.answers.specs.declared.Answer as code
 use Rattle.answers.proofs.AnswerLaws.{delivers}
 use Rattle.report_theory.specs.Listed.{Refuses, ListedAlone}
 use Rattle.report_theory.proofs.ListedLaws.{listed-alone}
@@ -13,7 +14,7 @@ use Rattle.split_entry.specs.Listed.{CasesRefused}
 use Rattle.split_entry.proofs.ListedLaws.{splits-listed}
 use Rattle.split_entry.proofs.Theorems.{splits-kept}
 
-module _ (text cuts : List ℕ) (n : ℕ) (former out : List ℕ) (r : code.Answer) where
+module _ (text cuts : List ℕ) (n : ℕ) (former out : List ℕ) (r : Result ℕ Refusal) where
   pub split-keeps : (r ≡ answer_of (split_answer text cuts n)) × (out ≡ memory (split_answer text cuts n) former) →
       (r ≡ answer_of (split_answer text cuts n)) × ((out ≡ memory (split_answer text cuts n) former)
       × (Delivers (report_length r) out (SafeSplit text cuts) × (Delivers (report_length r) out (ExactSplit text cuts)

@@ -1,4 +1,5 @@
 -- A call of the bound by cases is refused in the listed cases, each by its number and at its place, and in no other. Assumes nothing.
+use Rattle.std.specs.Prelude.{Err, None, Ok, Option, Result, Some, ⊤}
 use Prim.Native.Nat.{ℕ, ◌≤◌}
 use mathlib.Core.Path.{◌≡◌, refl, ap, ◌∙◌}
 use mathlib.Core.Bool.{Bool, true, false, cond}
@@ -10,11 +11,7 @@ use lib.ListN.{length}
 use borrow.Author.Tests.{lt-ltb, le-ltb, ltb-true, ltb-false}
 use Rattle.refusals.specs.declared.Refusal.{Refusal}
 use Rattle.refusals.specs.declared.Refusal.TheVariants.{TextLength, Layout, OutOfRange, BadName}
-use Rattle.refusals.specs.declared.Acceptance.{Acceptance}
-use Rattle.refusals.specs.declared.Acceptance.TheVariants.{Accepted, Refused}
 use Rattle.text.specs.Text.{lines}
-use Rattle.file_format.specs.declared.RefusedLine.{RefusedLine}
-use Rattle.file_format.specs.declared.RefusedLine.TheVariants.{Nowhere as nowhere, Line as line}
 use Rattle.file_format.specs.Routine.{Routine, routine_of, bound_checks, read_bound}
 use Rattle.file_format.specs.Routine as readings
 use Rattle.file_format.proofs.RowLaws.{read-passes}
@@ -36,36 +33,36 @@ use Rattle.split_entry.specs.Listed.{CutsRefused, long_cuts, not_laid_out, out_o
 -- ---- the cuts
 
 module _ (ns : List (List ℕ)) (cuts : List ℕ) where
-  cuts_first : (r : Refusal) → cuts_acceptance ns cuts ≡ Refused r → CutsRefused ns cuts r
+  cuts_first : (r : Refusal) → cuts_acceptance ns cuts ≡ Err r → CutsRefused ns cuts r
   unfolding cuts_acceptance line_verdict refused_at
   cuts_first r e = by (ltb cuts_limit (length cuts)) refl e
     where
-      rows : length cuts ≤ cuts_limit → (f g h : RefusedLine) → layout_fault (lines cuts) ≡ f → earliest line_in_range 0 (lines cuts) ≡ g → earliest (line_named ns) 0 (lines cuts) ≡ h →
-          refused_at f Layout (refused_at g OutOfRange (refused_at h BadName Accepted)) ≡ Refused r → CutsRefused ns cuts r
-      rows short (line n) g h p q s e = let k : r ≡ Layout n = cc in not_laid_out short p k
-      rows short nowhere (line n) h p q s e = let k : r ≡ OutOfRange n = cc in out_of_range short p q k
-      rows short nowhere nowhere (line n) p q s e = let k : r ≡ BadName n = cc in not_named short p q s k
-      rows short nowhere nowhere nowhere p q s e = let z : ◌≡◌ {A = ℕ} 0 1 = cc in absurd (omega arith)
+      rows : length cuts ≤ cuts_limit → (f g h : Option ℕ) → layout_fault (lines cuts) ≡ f → earliest line_in_range 0 (lines cuts) ≡ g → earliest (line_named ns) 0 (lines cuts) ≡ h →
+          refused_at f Layout (refused_at g OutOfRange (refused_at h BadName (Ok tt))) ≡ Err r → CutsRefused ns cuts r
+      rows short (Some n) g h p q s e = let k : r ≡ Layout n = cc in not_laid_out short p k
+      rows short None (Some n) h p q s e = let k : r ≡ OutOfRange n = cc in out_of_range short p q k
+      rows short None None (Some n) p q s e = let k : r ≡ BadName n = cc in not_named short p q s k
+      rows short None None None p q s e = let z : ◌≡◌ {A = ℕ} 0 1 = cc in absurd (omega arith)
 
-      by : (b : Bool) → ltb cuts_limit (length cuts) ≡ b → cond b (Refused TextLength) (line_verdict ns (lines cuts)) ≡ Refused r → CutsRefused ns cuts r
+      by : (b : Bool) → ltb cuts_limit (length cuts) ≡ b → cond b (Err TextLength) (line_verdict ns (lines cuts)) ≡ Err r → CutsRefused ns cuts r
       by true q e = let k : r ≡ TextLength = cc in long_cuts (ltb-true cuts_limit (length cuts) q) k
       by false q e = rows (ltb-false cuts_limit (length cuts) q) _ _ _ refl refl refl e
 
-  first-cuts : {r : Refusal} → CutsRefused ns cuts r → cuts_acceptance ns cuts ≡ Refused r
+  first-cuts : {r : Refusal} → CutsRefused ns cuts r → cuts_acceptance ns cuts ≡ Err r
   unfolding cuts_acceptance line_verdict refused_at
   first-cuts (long_cuts l e) = rw (lt-ltb cuts_limit (length cuts) l, e) refl
   first-cuts (not_laid_out l p e) = rw (le-ltb cuts_limit (length cuts) l, p, e) refl
   first-cuts (out_of_range l p q e) = rw (le-ltb cuts_limit (length cuts) l, p, q, e) refl
   first-cuts (not_named l p q s e) = rw (le-ltb cuts_limit (length cuts) l, p, q, s, e) refl
 
-  none-cuts : ((r : Refusal) → CutsRefused ns cuts r → ⊥) → cuts_acceptance ns cuts ≡ Accepted
+  none-cuts : ((r : Refusal) → CutsRefused ns cuts r → ⊥) → cuts_acceptance ns cuts ≡ Ok tt
   none-cuts h = go (cuts_acceptance ns cuts) refl
     where
-      go : (v : Acceptance) → cuts_acceptance ns cuts ≡ v → cuts_acceptance ns cuts ≡ Accepted
-      go Accepted e = e
-      go (Refused r) e = absurd (h r (cuts_first r e))
+      go : (v : Result ⊤ Refusal) → cuts_acceptance ns cuts ≡ v → cuts_acceptance ns cuts ≡ Ok tt
+      go (Ok tt) e = e
+      go (Err r) e = absurd (h r (cuts_first r e))
 
-  cuts-none : cuts_acceptance ns cuts ≡ Accepted → (r : Refusal) → CutsRefused ns cuts r → ⊥
+  cuts-none : cuts_acceptance ns cuts ≡ Ok tt → (r : Refusal) → CutsRefused ns cuts r → ⊥
   cuts-none e r k = let f = first-cuts k in let z : ◌≡◌ {A = ℕ} 0 1 = cc in omega arith
 
 -- ---- a routine
@@ -83,11 +80,11 @@ module _ (text cuts : List ℕ) (reads : read_bound text ≡ readings.routine (r
   unfolding split_routine cuts_checked checked cases_routine of_verdict
   cases_end = (λ e. to (cuts_checked text cuts) refl e, from)
     where
-      to : (v : Acceptance) → cuts_checked text cuts ≡ v → checked v (cases_routine cuts x) ≡ refused r → CasesEnd text cuts x r
-      to Accepted h e =
+      to : (v : Result ⊤ Refusal) → cuts_checked text cuts ≡ v → checked v (cases_routine cuts x) ≡ refused r → CasesEnd text cuts x r
+      to (Ok tt) h e =
           case_refuses (cuts-none (cells_named (lines text)) cuts h)
           (cases-refused.0 (from-refused (bound_text x.tick) (split x.code (cuts_of cuts) x.start) r e))
-      to (Refused y) h e = let k : y ≡ r = cc in cuts_refuse (cuts_first (cells_named (lines text)) cuts r (h ∙ ap Refused k))
+      to (Err y) h e = let k : y ≡ r = cc in cuts_refuse (cuts_first (cells_named (lines text)) cuts r (h ∙ ap Err k))
 
       from : CasesEnd text cuts x r → split_routine text cuts x ≡ refused r
       from (cuts_refuse k) = rw (first-cuts (cells_named (lines text)) cuts k) refl

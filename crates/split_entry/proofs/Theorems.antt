@@ -1,4 +1,5 @@
 -- The statements of `specs/Promises`, each proved by its name. Assumes nothing.
+use Rattle.std.specs.Prelude.{Err, Ok, Result, ⊤}
 use Prim.Native.Nat.{ℕ, ◌≤◌}
 use mathlib.Core.Path.{◌≡◌, refl, sym, ap, ◌∙◌}
 use mathlib.Core.Bool.{Bool, true, false, cond}
@@ -6,8 +7,6 @@ use mathlib.Core.List.{List}
 use lib.Dec.{ltb}
 use borrow.Author.Tests.{ltb-true, ltb-false}
 use Rattle.refusals.specs.declared.Refusal.TheVariants.{ReportMemory}
-use Rattle.refusals.specs.declared.Acceptance as checks
-use Rattle.refusals.specs.declared.Acceptance.TheVariants.{Accepted, Refused}
 use Rattle.text.specs.Text.{lines}
 use Rattle.bound_theory.specs.Tree.{Report, accepted}
 use Rattle.bound_theory.specs.Tree as verdicts
@@ -34,7 +33,7 @@ use Rattle.refusals.specs.Library.{length}
 use Rattle.bound_theory.specs.Terms.{Refusal, place}
 
 -- a report of a routine under cuts that pass
-answers : (text cuts : List ℕ) (x : Routine) → read_bound text ≡ readings.routine x → cuts_checked text cuts ≡ Accepted → (r : Report) → split x.code (cuts_of cuts) x.start ≡ accepted r →
+answers : (text cuts : List ℕ) (x : Routine) → read_bound text ≡ readings.routine x → cuts_checked text cuts ≡ Ok tt → (r : Report) → split x.code (cuts_of cuts) x.start ≡ accepted r →
     (n : ℕ) → memory_limit ≤ n → split_answer text cuts n ≡ reported (bound_text x.tick r)
 unfolding cases_routine of_verdict
 answers text cuts x reads passes r a n h =
@@ -102,11 +101,11 @@ pub splits-refused : SplitsRefused
 unfolding split_answer of_reading split_routine checked cases_routine
 splits-refused text cuts n r e = go (ltb n memory_limit) refl (read_bound text) refl e
   where
-    routine : memory_limit ≤ n → (x : Routine) → read_bound text ≡ readings.routine x → (v : checks.Acceptance) → cuts_checked text cuts ≡ v → checked v (cases_routine cuts x) ≡ refused r → SplitRefusal text cuts n r
-    routine l x reads Accepted h e =
+    routine : memory_limit ≤ n → (x : Routine) → read_bound text ≡ readings.routine x → (v : Result ⊤ Refusal) → cuts_checked text cuts ≡ v → checked v (cases_routine cuts x) ≡ refused r → SplitRefusal text cuts n r
+    routine l x reads (Ok tt) h e =
         let (u, k, m) = split-refused x.code (cuts_of cuts) x.start r (from-refused (bound_text x.tick) (split x.code (cuts_of cuts) x.start) r e) in
         by_case l x reads h u k m
-    routine l x reads (Refused y) h e = let g : y ≡ r = cc in by_cuts l x reads (h ∙ ap Refused g)
+    routine l x reads (Err y) h e = let g : y ≡ r = cc in by_cuts l x reads (h ∙ ap Err g)
 
     go : (b : Bool) → ltb n memory_limit ≡ b → (m : Reading) → read_bound text ≡ m → cond b (refused ReportMemory) (of_reading (split_routine text cuts) m) ≡ refused r → SplitRefusal text cuts n r
     go true h m q e = let g : ReportMemory ≡ r = cc in by_memory (ltb-true n memory_limit h) (sym g)

@@ -1,8 +1,8 @@
 -- When a call of the bound by cases is refused, by which number and at which place: in the listed cases and in no other.
 -- (docs/DECISIONS.md, The bound by cases)
-use Rattle.std.specs.Prelude.{◌≤◌, ◌<◌, ◌↔◌, ◌≡◌}
+use Rattle.std.specs.Prelude.{◌≤◌, ◌<◌, ◌↔◌, ◌≡◌, None, Some}
 use Rattle.refusals.specs.Library.{ℕ, length, List}
-use Rattle.answers.specs.Terms.{Routine, refused, Refusal, TextLength, Layout, OutOfRange, BadName, lines, nowhere, line}
+use Rattle.answers.specs.Terms.{Routine, refused, Refusal, TextLength, Layout, OutOfRange, BadName, lines}
 use Rattle.file_format.specs.Routine.{bound_checks}
 use Rattle.replay_trace.specs.Traces.{earliest}
 use Rattle.split_theory.specs.Promises.{FirstRefused}
@@ -16,12 +16,12 @@ pub data CutsRefused (ns : List (List ℕ)) (cuts : List ℕ) (r : Refusal) : Ty
   -- "of at most 4,096 bytes"
   long_cuts : cuts_limit < length cuts → r ≡ TextLength → CutsRefused ns cuts r
   -- the layout, the spelling, a seventeenth cut
-  not_laid_out : {n : ℕ} → length cuts ≤ cuts_limit → layout_fault (lines cuts) ≡ line n → r ≡ Layout n → CutsRefused ns cuts r
+  not_laid_out : {n : ℕ} → length cuts ≤ cuts_limit → layout_fault (lines cuts) ≡ Some n → r ≡ Layout n → CutsRefused ns cuts r
   -- a number outside 31 bits
-  out_of_range : {n : ℕ} → length cuts ≤ cuts_limit → layout_fault (lines cuts) ≡ nowhere → earliest line_in_range 0 (lines cuts) ≡ line n → r ≡ OutOfRange n → CutsRefused ns cuts r
+  out_of_range : {n : ℕ} → length cuts ≤ cuts_limit → layout_fault (lines cuts) ≡ None → earliest line_in_range 0 (lines cuts) ≡ Some n → r ≡ OutOfRange n → CutsRefused ns cuts r
   -- "4 is for a name that lines 10 and 12 of the routine file do not have"
-  not_named : {n : ℕ} → length cuts ≤ cuts_limit → layout_fault (lines cuts) ≡ nowhere → earliest line_in_range 0 (lines cuts) ≡ nowhere →
-      earliest (line_named ns) 0 (lines cuts) ≡ line n → r ≡ BadName n → CutsRefused ns cuts r
+  not_named : {n : ℕ} → length cuts ≤ cuts_limit → layout_fault (lines cuts) ≡ None → earliest line_in_range 0 (lines cuts) ≡ None →
+      earliest (line_named ns) 0 (lines cuts) ≡ Some n → r ≡ BadName n → CutsRefused ns cuts r
 
 -- of the routine x that a text holds: the cuts' refusals, "then the 14 or 7 of the first case that is refused"
 pub data CasesEnd (text cuts : List ℕ) (x : Routine) (r : Refusal) : Type 0 where

@@ -1,9 +1,8 @@
 -- What is promised of the bytes of the bound by cases, in terms of both texts. `proofs/Theorems` proves each by its name.
-use Rattle.std.specs.Prelude.{◌≤◌, ◌<◌, ◌≡◌}
+use Rattle.std.specs.Prelude.{◌≤◌, ◌<◌, ◌≡◌, Err, Ok}
 use Rattle.refusals.specs.Library.{ℕ, List}
 use Rattle.bound_theory.specs.Terms.{Refusal, ReportMemory, Report, accepted, Allowed, State, Cellwise}
 use Rattle.answers.specs.Terms.{Routine, read_bound, reported, refused, memory_limit}
-use Rattle.refusals.specs.declared.Acceptance.TheVariants.{Accepted, Refused}
 use Rattle.bound_theory.specs.Promises.{NoGreater}
 use Rattle.bound_theory.specs.Tree as verdicts
 use Rattle.merge_theory.specs.Merge.{merged}
@@ -20,7 +19,7 @@ use Rattle.split_entry.specs.Answers.{cuts_checked, split_answer}
 -- the bytes are the report, with the figures q, of the routine x that the text holds, under the cuts of the second text
 pub record SplitReported (text cuts bytes : List ℕ) (x : Routine) (q : Report) : Type 0 where
   pub reads : read_bound text ≡ readings.routine x
-  pub passes : cuts_checked text cuts ≡ Accepted
+  pub passes : cuts_checked text cuts ≡ Ok tt
   pub accepts : split x.code (cuts_of cuts) x.start ≡ accepted q
   pub prints : bytes ≡ bound_text x.tick q
 
@@ -47,7 +46,7 @@ BelowMerge text cuts bytes =
 abbrev pub MoreCuts : List ℕ → List ℕ → List ℕ → Type 0
 MoreCuts text cuts bytes =
     (x : Routine) × (q : Report) × SplitReported text cuts bytes x q
-    × ((more : List ℕ) → cuts_checked text more ≡ Accepted → ((c : Cut) → Among c (cuts_of cuts) → Among c (cuts_of more)) → (n : ℕ) → memory_limit ≤ n →
+    × ((more : List ℕ) → cuts_checked text more ≡ Ok tt → ((c : Cut) → Among c (cuts_of cuts) → Among c (cuts_of more)) → (n : ℕ) → memory_limit ≤ n →
     (other : List ℕ) × (r : Report) × (split_answer text more n ≡ reported other) × SplitReported text more other x r × NoGreater r q)
 
 -- knowing more never costs more under the same cuts: every other text that passes and narrows this one has a report, and no figure is greater
@@ -60,8 +59,8 @@ MonotoneSplit text cuts bytes =
 pub data SplitRefusal (text cuts : List ℕ) (n : ℕ) (r : Refusal) : Type 0 where
   by_memory : n < memory_limit → r ≡ ReportMemory → SplitRefusal text cuts n r
   by_file : memory_limit ≤ n → read_bound text ≡ readings.unread r → SplitRefusal text cuts n r
-  by_cuts : memory_limit ≤ n → (x : Routine) → read_bound text ≡ readings.routine x → cuts_checked text cuts ≡ Refused r → SplitRefusal text cuts n r
-  by_case : memory_limit ≤ n → (x : Routine) → read_bound text ≡ readings.routine x → cuts_checked text cuts ≡ Accepted →
+  by_cuts : memory_limit ≤ n → (x : Routine) → read_bound text ≡ readings.routine x → cuts_checked text cuts ≡ Err r → SplitRefusal text cuts n r
+  by_case : memory_limit ≤ n → (x : Routine) → read_bound text ≡ readings.routine x → cuts_checked text cuts ≡ Ok tt →
       (u : State) → Case (cuts_of cuts) x.start u → merged x.code u ≡ verdicts.refused r → SplitRefusal text cuts n r
 
 -- ---- of all texts
@@ -74,7 +73,7 @@ SplitsKept =
 -- accepted wherever the merging bound is
 abbrev pub SplitAccepted : Type 0
 SplitAccepted =
-    (text cuts : List ℕ) (n : ℕ) (other : List ℕ) → merge_answer text n ≡ reported other → cuts_checked text cuts ≡ Accepted →
+    (text cuts : List ℕ) (n : ℕ) (other : List ℕ) → merge_answer text n ≡ reported other → cuts_checked text cuts ≡ Ok tt →
     (bytes : List ℕ) × (split_answer text cuts n ≡ reported bytes)
 
 -- refused where a case is, and as it is

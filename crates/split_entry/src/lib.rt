@@ -14,14 +14,13 @@ ghost use Rattle.split_entry.specs.Promises.{SafeSplit, ExactSplit, BelowMerge, 
 ghost use Rattle.split_entry.specs.Listed.{CasesRefused};
 ghost use Rattle.split_entry.specs.Held.{Read};
 
-use answers::Answer;
 use file_check::Reader;
 use file_format::{Role, Section};
 use file_reader::Routine;
-use refusals::Acceptance;
+use refusals::Refusal;
 
 // The refusal of the cuts, beside the names of the cells of a routine file.
-pub fn check(text: &[u8], cuts: &[u8]) -> Acceptance
+pub fn check(text: &[u8], cuts: &[u8]) -> Result<(), Refusal>
     ensures { result ≡ cuts_checked text.now cuts.now }
 {
     let cells = file_layout::text_of(text, Role::Names(Section::Cells));
@@ -30,7 +29,7 @@ pub fn check(text: &[u8], cuts: &[u8]) -> Acceptance
 }
 
 // The answer to a routine and to an accepted text of cuts.
-fn split_routine(routine: Routine, cuts: &[u8], out: &mut [u8]) -> Answer
+fn split_routine(routine: Routine, cuts: &[u8], out: &mut [u8]) -> Result<usize, Refusal>
     requires limited { Limited routine × (length (lines cuts.now) ≤ 17) }
     requires printable { Printable (cases_routine cuts.now (routine_in routine)) routine.tick (length out.old) }
     ensures value { result ≡ answer_of (cases_routine cuts.now (routine_in routine)) }
@@ -42,23 +41,18 @@ fn split_routine(routine: Routine, cuts: &[u8], out: &mut [u8]) -> Answer
 }
 
 // The answer to a routine file that passes and to the text of its cuts.
-fn split_passing(text: &[u8], cuts: &[u8], out: &mut [u8]) -> Answer
+fn split_passing(text: &[u8], cuts: &[u8], out: &mut [u8]) -> Result<usize, Refusal>
     requires { Read text.now × (128 ≤ length out.old) }
     ensures value { result ≡ answer_of (split_routine text.now cuts.now (routine_of (lines text.now))) }
     ensures out_after { out.new ≡ memory (split_routine text.now cuts.now (routine_of (lines text.now))) out.old }
 {
-    let verdict = check(text, cuts);
-    match verdict {
-        Acceptance::Accepted => {
-            let routine = file_reader::routine_of(text);
-            split_routine(routine, cuts, out)
-        }
-        Acceptance::Refused(refusal) => Answer::Refused(refusal),
-    }
+    check(text, cuts)?;
+    let routine = file_reader::routine_of(text);
+    split_routine(routine, cuts, out)
 }
 
 // The bound by cases of a routine file: the report in the lent memory, or a refusal.
-pub fn split(text: &[u8], cuts: &[u8], out: &mut [u8]) -> Answer
+pub fn split(text: &[u8], cuts: &[u8], out: &mut [u8]) -> Result<usize, Refusal>
     ensures value { result ≡ answer_of (split_answer text.now cuts.now (length out.old)) }
     ensures out_after { out.new ≡ memory (split_answer text.now cuts.now (length out.old)) out.old }
     ensures safe { Delivers (report_length result) out.new (SafeSplit text.now cuts.now) }
@@ -68,9 +62,6 @@ pub fn split(text: &[u8], cuts: &[u8], out: &mut [u8]) -> Answer
     ensures monotone { Delivers (report_length result) out.new (MonotoneSplit text.now cuts.now) }
     ensures listed { ListedAlone (Refuses result) (CasesRefused text.now cuts.now (length out.old)) }
 {
-    let verdict = file_entry::check(Reader::Bound, 128, out.len(), text);
-    match verdict {
-        Acceptance::Accepted => split_passing(text, cuts, out),
-        Acceptance::Refused(refusal) => Answer::Refused(refusal),
-    }
+    file_entry::check(Reader::Bound, 128, out.len(), text)?;
+    split_passing(text, cuts, out)
 }

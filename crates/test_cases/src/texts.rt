@@ -1,5 +1,4 @@
 // Prints what the bound and the run say of the texts in a list of cases.
-use answers::Answer;
 use refusals::Refusal;
 
 // Prints the line of a refusal.
@@ -17,10 +16,10 @@ fn print_report(rt: &HostRuntime, n: usize, bytes: &[u8]) {
 }
 
 // Prints the report, which is at the start of bytes, or the line of the refusal.
-fn print(rt: &HostRuntime, answer: Answer, bytes: &[u8]) {
+fn print(rt: &HostRuntime, answer: Result<usize, Refusal>, bytes: &[u8]) {
     match answer {
-        Answer::Reported(n) => print_report(rt, n, bytes),
-        Answer::Refused(refusal) => print_refusal(rt, refusal),
+        Ok(n) => print_report(rt, n, bytes),
+        Err(refusal) => print_refusal(rt, refusal),
     }
 }
 
@@ -67,6 +66,7 @@ fn tell_case(rt: &HostRuntime, cases: &[u8]) -> usize {
 // Tells of each case, up to the first that is not whole.
 pub fn tell_all(rt: &HostRuntime, cases: &[u8]) {
     let mut at = 0;
+    // A while: each case says how many bytes it takes, and `at` goes on by those.
     while at < cases.len() {
         let size = tell_case(rt, &cases[at..]);
         if size == 0 {

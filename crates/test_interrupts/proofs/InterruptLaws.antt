@@ -1,18 +1,14 @@
 -- A run that is interrupted and bounded afresh, apart from its code. Assumes nothing.
-use Prim.Native.Nat.{ℕ, ◌+◌, ◌≤◌, ◌<◌}
+use Rattle.std.specs.Prelude.{Ok, Err}
+use Prim.Native.Nat.{ℕ, ◌≤◌, ◌<◌}
 use mathlib.Core.Path.{◌≡◌, refl, sym, ap, ◌∙◌}
 use mathlib.Core.Bool.{Bool, true, false, cond}
 use mathlib.Core.List.{List, [], ◌∷◌, ◌++◌}
-use native.Mathlib.Omega.{arith}
 use lib.IntN.{ℤ}
-use lib.ListN.{length, get_or, take, drop, set}
-use lib.Seq.{take-length}
+use lib.ListN.{length, drop}
 use borrow.Author.Tests.{lt-ltb, le-ltb}
 use Rattle.refusals.specs.declared.Refusal.{Refusal}
-use Rattle.refusals.specs.declared.Acceptance.TheVariants.{Accepted, Refused}
 use Rattle.refusals.specs.Refusals.{number, place}
-use Rattle.text_decimals.specs.Memory.{over}
-use Rattle.text_decimals.proofs.MemoryLaws.{over-next}
 use Rattle.machine.specs.Machine.{State, Code, reblock}
 use Rattle.bound_theory.specs.Tree.{Verdict, accepted, refused, bound}
 use Rattle.bound_theory.specs.Run.{Run, begin, after, bounded_afresh}
@@ -59,12 +55,12 @@ abbrev pub refused-numbers : ℕ → ℕ → List ℕ
 refused-numbers n p = n ∷ p ∷ 0 ∷ 0 ∷ 0 ∷ 0 ∷ 0 ∷ []
 
 -- what was found, as numbers
-pub tells-accepted : (f : Found) → f.verdict ≡ Accepted → (v : Verdict) → Shows f v → accepted-numbers f ≡ numbers_of_verdict v
+pub tells-accepted : (f : Found) → f.verdict ≡ Ok tt → (v : Verdict) → Shows f v → accepted-numbers f ≡ numbers_of_verdict v
 unfolding numbers_of_verdict accepted_as
 tells-accepted f a (accepted q) s = ap accepted-numbers s
 tells-accepted f a (refused x) s = passes-not x (sym a ∙ s)
 
-pub tells-refused : (f : Found) (x : Refusal) → f.verdict ≡ Refused x → (n p : ℕ) → n ≡ number x → p ≡ place x → (v : Verdict) → Shows f v → refused-numbers n p ≡ numbers_of_verdict v
+pub tells-refused : (f : Found) (x : Refusal) → f.verdict ≡ Err x → (n p : ℕ) → n ≡ number x → p ≡ place x → (v : Verdict) → Shows f v → refused-numbers n p ≡ numbers_of_verdict v
 unfolding numbers_of_verdict accepted_as
 tells-refused f x a n p h k (accepted q) s = passes-not x (sym (ap (λ g. g.verdict) s) ∙ a)
 tells-refused f x a n p h k (refused y) s = let z = same-refused x y (sym a ∙ s) in rw (h, k, z) refl
@@ -79,19 +75,6 @@ pub numbers-are : (c : Code) (budget : ℕ) (ns : List ℕ) (xs : List ℤ) (r :
     Shows f (bounded_afresh (bound c budget) r.stopped (whole ns r.blocks r.state)) → (q : Run) → of_progress ns xs r ≡ q → numbers ≡ numbers_of c budget q
 unfolding numbers_of of_progress
 numbers-are c budget ns xs r f numbers n s q e = n ns xs _ s ∙ ap (numbers_of c budget) e
-
--- ---- the numbers t written over the memory d, one by one
-
-module _ (d t : List ℕ) (i : ℕ) where
-  pub put_next : length t ≤ length d → i < length t → (o : List ℕ) → o ≡ over d 0 (take i t) → set o i (get_or t i 0) ≡ over d 0 (take (i + 1) t)
-  put_next k h o e =
-      let z : i ≡ 0 + i = omega arith in
-      ap (λ (l : List ℕ). set l i (get_or t i 0)) e ∙ ap (λ (j : ℕ). set (over d 0 (take i t)) j (get_or t i 0)) z ∙ over-next d 0 t i (omega arith) h
-
-  pub put_all : i ≡ length t → (o : List ℕ) → o ≡ over d 0 (take i t) → o ≡ t ++ drop (length t) d
-  put_all h o e =
-      let z : 0 + length t ≡ length t = omega arith in
-      e ∙ ap (λ (j : ℕ). over d 0 (take j t)) h ∙ ap (over d 0) (take-length t) ∙ ap (λ (j : ℕ). t ++ drop j d) z
 
 -- ---- a routine
 

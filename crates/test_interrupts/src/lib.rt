@@ -19,7 +19,6 @@ use cells::Cell;
 use file_check::Reader;
 use file_reader::Routine;
 use machine_state::State;
-use refusals::Acceptance;
 use run_loop::Progress;
 
 // The state that a run has reached, bounded afresh.
@@ -57,7 +56,7 @@ fn told_of(found: Found) -> Told
     ensures { Tells found result }
 {
     let verdict = found.verdict;
-    let Acceptance::Refused(x) = verdict else {
+    let Err(x) = verdict else {
         return Told {
             number: 0,
             place: 0,
@@ -154,11 +153,7 @@ fn put_numbers(out: &mut [u64], numbers: [u64; 13])
     requires { 13 ≤ length out.old }
     ensures { out.new ≡ numbers ++ drop (length numbers) out.old }
 {
-    let mut i = 0;
-    while i < 13 {
-        out[i] = numbers[i];
-        i += 1;
-    }
+    out[..13].copy_from_slice(&numbers);
 }
 
 // A run of a routine file, interrupted after `n` steps and bounded afresh: its numbers in the lent memory, and 0 or the number of a refusal.
@@ -169,12 +164,12 @@ pub extern "C" fn tickbound_test_after(text: &[u8], n: u64, out: &mut [u64]) -> 
 {
     let verdict = file_entry::check(Reader::Run, 13, out.len(), text);
     match verdict {
-        Acceptance::Accepted => {
+        Ok(()) => {
             let x = file_reader::routine_of(text);
             let numbers = interrupted(x, n);
             put_numbers(out, numbers);
             0
         }
-        Acceptance::Refused(r) => refusals::number(r),
+        Err(r) => refusals::number(r),
     }
 }

@@ -3,3 +3,4 @@ pub mod ScanLaws
 pub mod PieceLaws
 pub mod LineLaws
 pub mod JoinLaws
+pub mod SplitLaws

@@ -1,13 +1,14 @@
 -- Laws of the lines of a text: which texts have none, the first line, and what follows it. Assumes nothing.
-use Prim.Native.Nat.{ℕ, zero, suc, ◌+◌, ◌-◌, ◌<◌, ◌≤◌}
+use Prim.Native.Nat.{ℕ, ◌+◌, ◌<◌, ◌≤◌}
 use mathlib.Core.Path.{◌≡◌, refl, sym, ap, ◌∙◌}
 use mathlib.Core.Bool.{Bool, true, false, cond}
 use mathlib.Core.List.{List, [], ◌∷◌}
 use native.Mathlib.Omega.{arith}
 use lib.Dec.{ltb}
-use lib.ListN.{length, get_or, take, drop}
-use lib.Seq.{length-take-le, take_all, drop-nil, get_or-drop}
+use lib.ListN.{length, get_or, take, drop, length-drop, drop_of_length-le}
+use lib.Seq.{length-take-le, take_all, get_or-drop}
 use borrow.Author.Tests.{ltb-true, ltb-false}
+use Rattle.std.proofs.lemmas.List.{drop-drop}
 use Rattle.text.specs.Text.{is_empty, parted_by, Line, no_line, lines_of, lines}
 use Rattle.text.proofs.ScanLaws.{first_length, past, cut-more, cut-last}
 use Rattle.text.proofs.PieceLaws.{split-some, first-le}
@@ -107,22 +108,16 @@ first_rest (l ∷ ls) h = refl
 pub lines-first : (s : List ℕ) → 0 < length s → lines s ≡ get_or (lines s) 0 no_line ∷ drop 1 (lines s)
 lines-first s h = first_rest (lines s) (lines-some s h)
 
--- what is left of lines after the first k: some are left to pass, none is, or the text is empty
+-- what is left of lines after the first k: one line more is passed, or the text is empty and no line is left
 
-pub drop-next : (ls rest : List Line) (k : ℕ) → 0 < k → rest ≡ drop 1 ls → drop k ls ≡ drop (k - 1) rest
-drop-next ls rest k h e = go ls k h ∙ ap (drop (k - 1)) (sym e)
-  where
-    go : (ls : List Line) (k : ℕ) → 0 < k → drop k ls ≡ drop (k - 1) (drop 1 ls)
-    go [] k h = drop-nil k ∙ sym (drop-nil (k - 1))
-    go (l ∷ ls) zero h = absurd (omega arith)
-    go (l ∷ ls) (suc k) h = let e : k ≡ suc k - 1 = omega arith in ap (λ (m : ℕ). drop m ls) e
+pub drop-next : (ls rest next : List Line) (k : ℕ) → rest ≡ drop k ls → next ≡ drop 1 rest → next ≡ drop (k + 1) ls
+drop-next ls rest next k h e = e ∙ ap (drop 1) h ∙ drop-drop 1 k ls
 
-pub drop-none : (ls : List Line) (k : ℕ) → k ≤ 0 → drop k ls ≡ ls
-drop-none ls zero h = refl
-drop-none ls (suc k) h = absurd (omega arith)
-
-pub drop-lines-empty : (s : List ℕ) (k : ℕ) → length s ≡ 0 → drop k (lines s) ≡ lines s
-drop-lines-empty s k h = rw (lines_none s (omega arith)) (drop-nil k)
+pub drop-lines-empty : (s : List ℕ) (ls : List Line) (k n : ℕ) → k ≤ n → length s ≡ 0 → lines s ≡ drop k ls → lines s ≡ drop n ls
+drop-lines-empty s ls k n h z e =
+    let none : lines s ≡ [] = lines_none s (omega arith) in
+    let short = ap length (sym e ∙ none) in
+    none ∙ sym (drop_of_length-le ls (omega (arith, length-drop k ls)))
 
 -- line k is the first of what is left after k lines
 pub line-drop : (ls rest : List Line) (k : ℕ) → rest ≡ drop k ls → get_or rest 0 no_line ≡ get_or ls k no_line

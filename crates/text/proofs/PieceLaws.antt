@@ -1,11 +1,11 @@
 -- Laws of a text's pieces by their number and their places, and of its words. Assumes nothing.
-use Prim.Native.Nat.{ℕ, zero, suc, ◌+◌, ◌-◌, ◌<◌, ◌≤◌}
+use Prim.Native.Nat.{ℕ, zero, suc, ◌+◌, ◌<◌, ◌≤◌}
 use mathlib.Core.Path.{◌≡◌, refl, sym, ap, ◌∙◌}
 use mathlib.Core.Bool.{Bool, true, false, cond}
 use mathlib.Core.List.{List, [], ◌∷◌}
 use native.Mathlib.Omega.{arith}
 use lib.Dec.{eqb, ltb}
-use lib.ListN.{length, get_or, take, get_or-eq_default}
+use lib.ListN.{length, get_or, take}
 use lib.Seq.{take_all}
 use borrow.Author.Tests.{ltb-true, ltb-false}
 use Rattle.text.specs.Text.{onto, parted_by, line_words}
@@ -69,20 +69,7 @@ pub words_last : (l : List ℕ) (n : ℕ) → n ≡ first_length 32 l → length
 unfolding line_words
 words_last l n q h = cut-last 32 l n q h
 
--- word k of l: a later one, none, the first
-
-get_d-later : (x : List ℕ) (xs : List (List ℕ)) (k : ℕ) → 0 < k → get_or (x ∷ xs) k [] ≡ get_or xs (k - 1) []
-get_d-later x xs zero h = absurd (omega arith)
-get_d-later x xs (suc k) h = ap (λ (m : ℕ). get_or xs m []) (omega arith)
-
-pub word_next : (l : List ℕ) (n k : ℕ) → n ≡ first_length 32 l → n < length l → 0 < k
-    → get_or (line_words l) k [] ≡ get_or (line_words (past n l)) (k - 1) []
-word_next l n k q h p = ap (λ (ws : List (List ℕ)). get_or ws k []) (words_more l n q h) ∙ get_d-later (take n l) (line_words (past n l)) k p
-
-pub word_none : (l : List ℕ) (n k : ℕ) → n ≡ first_length 32 l → length l ≤ n → 0 < k → get_or (line_words l) k [] ≡ []
-word_none l n k q h p =
-    let m : length (l ∷ []) ≤ k = omega arith in
-    ap (λ (ws : List (List ℕ)). get_or ws k []) (words_last l n q h) ∙ get_or-eq_default (l ∷ []) [] m
+-- the first word of l
 
 pub word-here : (l : List ℕ) (n k : ℕ) → n ≡ first_length 32 l → k ≤ 0 → get_or (line_words l) k [] ≡ take n l
 unfolding line_words

@@ -1,20 +1,15 @@
--- Laws of a scan, byte by byte or piece by piece, as the code makes it: of the length of a text's first piece, of a comparison and
--- of a search. Assumes nothing.
+-- Laws of a scan, byte by byte or piece by piece, as the code makes it: of the length of a text's first piece. Assumes nothing.
 use Prim.Native.Nat.{ℕ, suc, ◌+◌, ◌-◌, ◌<◌, ◌≤◌}
 use mathlib.Core.Path.{◌≡◌, refl, ap}
-use mathlib.Core.Bool.{Bool, true, false, cond}
+use mathlib.Core.Bool.{Bool, true, false}
 use mathlib.Core.List.{List, [], ◌∷◌}
-use mathlib.Core.Logic.{⊎_elim}
 use native.Mathlib.Omega.{arith}
 use native.Mathlib.Numerals.{add-one}
-use native.Mathlib.Nat.{zero-add, eq-or-lt_of_le}
 use lib.Dec.{eqb}
 use lib.ListN.{length, get_or, take, drop, length-drop, drop_of_length-le}
 use lib.Seq.{drop-cons, take_all}
 use borrow.Author.Tests.{eq-eqb, ne_eqb}
-use Rattle.text.specs.Text.{equals, onto, parted_by, line_words, place_from, looked, lookup}
-use Rattle.text.specs.declared.Lookup.{Lookup}
-use Rattle.text.specs.declared.Place.TheVariants.{At, Missing}
+use Rattle.text.specs.Text.{onto, parted_by}
 
 -- the length of a text's first piece
 abbrev pub first_length : ℕ → List ℕ → ℕ
@@ -95,63 +90,3 @@ cut-more c l n q h = rw (rest-is, add-one, q) (split-more c l (rw q at h))
 
 pub cut-last : (c : ℕ) (l : List ℕ) (n : ℕ) → n ≡ first_length c l → length l ≤ n → parted_by c l ≡ l ∷ []
 cut-last c l n q h = split-last c l (rw q at h)
-
--- texts of two lengths differ
-
-pub equals-lengths : (a b : List ℕ) → (length a ≡ length b → ⊥) → equals a b ≡ false
-unfolding equals
-equals-lengths [] [] n = absurd (n refl)
-equals-lengths [] (y ∷ ys) n = refl
-equals-lengths (x ∷ xs) [] n = refl
-equals-lengths (x ∷ xs) (y ∷ ys) n = go (eqb x y) (equals-lengths xs ys (λ e. n (ap suc e)))
-  where
-    go : (t : Bool) → equals xs ys ≡ false → cond t (equals xs ys) false ≡ false
-    go true e = e
-    go false e = refl
-
--- a comparison at i: the bytes differ, they agree, a is at its end
-
-pub equals-differ : (a b : List ℕ) (i : ℕ) → i < length a → i < length b → (get_or a i 0 ≡ get_or b i 0 → ⊥) → equals (drop i a) (drop i b) ≡ false
-unfolding equals
-equals-differ a b i h k n = rw (drop-cons a i 0 h, drop-cons b i 0 k, ne_eqb (get_or a i 0) (get_or b i 0) n) refl
-
-pub equals-agree : (a b : List ℕ) (i : ℕ) → i < length a → i < length b → get_or a i 0 ≡ get_or b i 0 → equals (drop i a) (drop i b) ≡ equals (drop (suc i) a) (drop (suc i) b)
-unfolding equals
-equals-agree a b i h k e = rw (drop-cons a i 0 h, drop-cons b i 0 k, eq-eqb (get_or a i 0) (get_or b i 0) e) refl
-
-pub equals-end : (a b : List ℕ) (i : ℕ) → length a ≤ i → i ≤ length b → equals (drop i a) (drop i b) ≡ eqb i (length b)
-unfolding equals
-equals-end a b i h k =
-    ⊎_elim
-    (λ (e : i ≡ length b). let k' : length b ≤ i = omega arith in rw (drop_of_length-le a h, drop_of_length-le b k', eq-eqb i (length b) e) refl)
-    (λ (l : i < length b). rw (drop_of_length-le a h, drop-cons b i 0 l, ne_eqb i (length b) (omega arith)) refl)
-    (eq-or-lt_of_le k)
-
--- what looking w up comes to where k words before the given ones have been looked at
-abbrev pub lookup_from : ℕ → List ℕ → List (List ℕ) → Lookup
-lookup_from k w ws = record { place = place_from k w ws; looked = k + looked w ws }
-
-pub lookup-from : (w : List ℕ) (ws : List (List ℕ)) → lookup w ws ≡ lookup_from 0 w ws
-lookup-from w ws = rw (zero-add (looked w ws)) refl
-
--- among the words of l, whose first word has the length n: that word is w, it is another, or it is the last
-
-module _ (k : ℕ) (w l : List ℕ) (n : ℕ) (q : n ≡ first_length 32 l) where
-  pub find-here : n < length l → equals w (take n l) ≡ true → lookup_from k w (line_words l) ≡ record { place = At k; looked = k + 1 }
-  unfolding line_words
-  find-here h e = rw (cut-more 32 l n q h, e) refl
-
-  pub find-next : n < length l → equals w (take n l) ≡ false → lookup_from k w (line_words l) ≡ lookup_from (k + 1) w (line_words (past n l))
-  unfolding line_words
-  find-next h e =
-      let ws = line_words (past n l) in
-      let s : k + suc (looked w ws) ≡ suc k + looked w ws = omega arith in
-      rw (cut-more 32 l n q h, e, add-one k) (ap (λ m. record { place = place_from (suc k) w ws; looked = m }) s)
-
-  pub find-last : length l ≤ n → lookup_from k w (line_words l) ≡ record { place = cond (equals w l) (At k) Missing; looked = k + 1 }
-  unfolding line_words
-  find-last h = rw (cut-last 32 l n q h) (last (equals w l))
-    where
-      last : (b : Bool) → ◌≡◌ {A = Lookup} (record { place = cond b (At k) Missing; looked = k + suc (cond b 0 0) }) (record { place = cond b (At k) Missing; looked = k + 1 })
-      last true = refl
-      last false = refl

@@ -1,5 +1,6 @@
 -- Laws of texts: what holds of each byte of the pieces holds of each byte of the text; a word among the given ones is one of them. And
 -- of tests that hold together or agree. Assumes nothing.
+use Rattle.std.specs.Prelude.{None, Option, Some}
 use mathlib.Core.Path.{◌≡◌, refl, sym, ap, ap₂, subst, ◌∙◌}
 use mathlib.Core.Bool.{Bool, true, false, cond, false≢true, and-eq-true_iff, ◌&&◌}
 use mathlib.Core.List.{List, [], ◌∷◌, ◌++◌}
@@ -9,9 +10,9 @@ use native.Mathlib.Nat.{le_of_suc-le-suc, not-suc-le-zero}
 use lib.Dec.{eqb, leb, ltb}
 use lib.ListN.{length, get_or}
 use borrow.Author.Tests.{eqb-true, eq-eqb, ltb-true, ltb-false, lt-ltb, le-ltb, leb-true, leb-false, le-leb, lt-leb}
+use Rattle.std.specs.List.{list_all}
+use Rattle.std.specs.Cmp.Lexicographic.{pointwise}
 use Rattle.text.specs.Text.{equals, onto, parted_by, lines_of, lines, place_from, place_among, index_of, find, among, all}
-use Rattle.text.specs.declared.Place.{Place}
-use Rattle.text.specs.declared.Place.TheVariants.{At, Missing}
 
 -- tests that hold together
 
@@ -45,9 +46,6 @@ leb-agree a b c d f g = go (leb c d) refl
     go : (t : Bool) → leb c d ≡ t → leb a b ≡ leb c d
     go true e = le-leb a b (f (leb-true c d e)) ∙ sym e
     go false e = lt-leb a b (g (leb-false c d e)) ∙ sym e
-
-pub ltb-suc : (a b : ℕ) → ltb a b ≡ ltb (suc a) (suc b)
-ltb-suc a b = ltb-agree a b (suc a) (suc b) (λ k. omega arith) (λ k. omega arith)
 
 -- P holds of each element
 pub data Every {A : Type 0} (P : A → Type 0) : List A → Type 0 where
@@ -92,6 +90,24 @@ unfolding equals
 equals-self [] = refl
 equals-self (x ∷ xs) = rw (eq-eqb x x refl) (equals-self xs)
 
+-- a test of all, as std says it
+pub list_all-all : {A : Type 0} (t : A → Bool) (xs : List A) → list_all t xs ≡ all t xs
+unfolding all
+list_all-all t [] = refl
+list_all-all t (x ∷ xs) = ap (λ b. t x && b) (list_all-all t xs)
+
+-- `==` of two texts, as std says it
+pub equals-pointwise : (x y : List ℕ) → equals x y ≡ pointwise eqb x y
+unfolding equals
+equals-pointwise [] [] = refl
+equals-pointwise [] (y ∷ ys) = refl
+equals-pointwise (x ∷ xs) [] = refl
+equals-pointwise (x ∷ xs) (y ∷ ys) = both (eqb x y) ∙ ap (λ b. eqb x y && b) (equals-pointwise xs ys)
+  where
+    both : (b : Bool) → cond b (equals xs ys) false ≡ (b && equals xs ys)
+    both true = refl
+    both false = refl
+
 -- a word among the given ones
 
 pub among-every : {P : List ℕ → Type 0} (w : List ℕ) (ws : List (List ℕ)) → among w ws ≡ true → Every P ws → P w
@@ -114,25 +130,25 @@ among-at (x ∷ xs) (suc k) h = go (equals (get_or xs k []) x) (among-at xs k (l
     go true e = refl
     go false e = e
 
-abbrev pub is_found : Place → Bool
-is_found (At k) = true
-is_found Missing = false
+abbrev pub is_found : Option ℕ → Bool
+is_found (Some k) = true
+is_found None = false
 
 pub among-place : (k : ℕ) (w : List ℕ) (ws : List (List ℕ)) → among w ws ≡ is_found (place_from k w ws)
 unfolding among
 among-place k w [] = refl
 among-place k w (x ∷ xs) = go (equals w x) (among-place (suc k) w xs)
   where
-    go : (b : Bool) → among w xs ≡ is_found (place_from (suc k) w xs) → cond b true (among w xs) ≡ is_found (cond b (At k) (place_from (suc k) w xs))
+    go : (b : Bool) → among w xs ≡ is_found (place_from (suc k) w xs) → cond b true (among w xs) ≡ is_found (cond b (Some k) (place_from (suc k) w xs))
     go true e = refl
     go false e = e
 
 -- its place is one of theirs
-pub place-below : (k : ℕ) (w : List ℕ) (ws : List (List ℕ)) {n : ℕ} → place_from k w ws ≡ At n → n < k + length ws
+pub place-below : (k : ℕ) (w : List ℕ) (ws : List (List ℕ)) {n : ℕ} → place_from k w ws ≡ Some n → n < k + length ws
 place-below k w [] e = let z : ◌≡◌ {A = ℕ} 0 1 = cc in absurd (omega arith)
 place-below k w (x ∷ xs) {n} e = go (equals w x) e (place-below (suc k) w xs)
   where
-    go : (b : Bool) → cond b (At k) (place_from (suc k) w xs) ≡ At n → (place_from (suc k) w xs ≡ At n → n < suc k + length xs) → n < k + suc (length xs)
+    go : (b : Bool) → cond b (Some k) (place_from (suc k) w xs) ≡ Some n → (place_from (suc k) w xs ≡ Some n → n < suc k + length xs) → n < k + suc (length xs)
     go true q ih = let f : k ≡ n = cc in omega arith
     go false q ih = omega (arith, ih q)
 
@@ -140,26 +156,26 @@ pub find-below : (w : List ℕ) (ws : List (List ℕ)) → 0 < length ws → fin
 unfolding find
 find-below w ws h = go (place_among w ws) refl
   where
-    go : (p : Place) → place_among w ws ≡ p → index_of p < length ws
-    go (At k) e = omega (arith, place-below 0 w ws e)
-    go Missing e = h
+    go : (p : Option ℕ) → place_among w ws ≡ p → index_of p < length ws
+    go (Some k) e = omega (arith, place-below 0 w ws e)
+    go None e = h
 
 -- and there it stands
-place-word : (k : ℕ) (w : List ℕ) (ws : List (List ℕ)) {n : ℕ} → place_from k w ws ≡ At n → (k ≤ n) × (get_or ws (n - k) [] ≡ w)
+place-word : (k : ℕ) (w : List ℕ) (ws : List (List ℕ)) {n : ℕ} → place_from k w ws ≡ Some n → (k ≤ n) × (get_or ws (n - k) [] ≡ w)
 place-word k w [] e = let z : ◌≡◌ {A = ℕ} 0 1 = cc in absurd (omega arith)
 place-word k w (x ∷ xs) {n} e = go (equals w x) refl e (place-word (suc k) w xs)
   where
-    go : (b : Bool) → equals w x ≡ b → cond b (At k) (place_from (suc k) w xs) ≡ At n → (place_from (suc k) w xs ≡ At n → (suc k ≤ n) × (get_or xs (n - suc k) [] ≡ w)) → (k ≤ n) × (get_or (x ∷ xs) (n - k) [] ≡ w)
+    go : (b : Bool) → equals w x ≡ b → cond b (Some k) (place_from (suc k) w xs) ≡ Some n → (place_from (suc k) w xs ≡ Some n → (suc k ≤ n) × (get_or xs (n - suc k) [] ≡ w)) → (k ≤ n) × (get_or (x ∷ xs) (n - k) [] ≡ w)
     go true s q ih = let f : k ≡ n = cc in let z : n - k ≡ 0 = omega arith in (omega arith, rw z (sym (equals-path w x s)))
     go false s q ih = let i = ih q in let z : n - k ≡ suc (n - suc k) = omega (arith, i.0) in (omega (arith, i.0), rw z i.1)
 
-pub among-find : (w : List ℕ) (ws : List (List ℕ)) → among w ws ≡ true → (place_among w ws ≡ At (find w ws)) × (get_or ws (find w ws) [] ≡ w)
+pub among-find : (w : List ℕ) (ws : List (List ℕ)) → among w ws ≡ true → (place_among w ws ≡ Some (find w ws)) × (get_or ws (find w ws) [] ≡ w)
 unfolding find
 among-find w ws h = go (place_among w ws) refl (sym (among-place 0 w ws) ∙ h)
   where
-    go : (p : Place) → place_among w ws ≡ p → is_found p ≡ true → (p ≡ At (index_of p)) × (get_or ws (index_of p) [] ≡ w)
-    go (At k) e q = let z : k ≡ k - 0 = omega arith in (refl, ap (λ i. get_or ws i []) z ∙ (place-word 0 w ws e).1)
-    go Missing e q = absurd (false≢true q)
+    go : (p : Option ℕ) → place_among w ws ≡ p → is_found p ≡ true → (p ≡ Some (index_of p)) × (get_or ws (index_of p) [] ≡ w)
+    go (Some k) e q = let z : k ≡ k - 0 = omega arith in (refl, ap (λ i. get_or ws i []) z ∙ (place-word 0 w ws e).1)
+    go None e q = absurd (false≢true q)
 
 -- "those up to and with the one sought, or all of them where that one is missing"
 

@@ -1,12 +1,10 @@
 -- A text is the list of its bytes. Lines end in a line feed (byte 10), and words are parted by one space (byte 32).
 -- Nothing here knows how long a text may be.
-use Rattle.std.specs.Prelude.{◌&&◌, ◌∷◌, ◌++◌}
+use Rattle.std.specs.Prelude.{◌&&◌, ◌∷◌, ◌++◌, None, Option, Some}
 use Rattle.refusals.specs.Library.{ℕ, suc, String, eqb, Bool, true, false, cond, not, List, []}
 use Prim.Native.Char.{code}
 use Prim.Native.String.{[] as ends, ◌∷◌ as ◌then◌}
 use Rattle.text.specs.declared.Lookup.{Lookup}
-use Rattle.text.specs.declared.Place.{Place}
-use Rattle.text.specs.declared.Place.TheVariants.{At, Missing}
 
 -- the bytes of a quoted text, which is ASCII
 abbrev pub bytes : String → List ℕ
@@ -70,12 +68,12 @@ lines_text [] = []
 lines_text (l ∷ ls) = l.text ++ bytes "\n" ++ lines_text ls
 
 -- where the first of the given words is w, counted from k, if it is one of them
-abbrev pub place_from : ℕ → List ℕ → List (List ℕ) → Place
-place_from k w [] = Missing
-place_from k w (x ∷ xs) = cond (equals w x) (At k) (place_from (suc k) w xs)
+abbrev pub place_from : ℕ → List ℕ → List (List ℕ) → Option ℕ
+place_from k w [] = None
+place_from k w (x ∷ xs) = cond (equals w x) (Some k) (place_from (suc k) w xs)
 
 -- counted from 0
-abbrev pub place_among : List ℕ → List (List ℕ) → Place
+abbrev pub place_among : List ℕ → List (List ℕ) → Option ℕ
 place_among w ws = place_from 0 w ws
 
 -- "how many names it looked at: those up to and with the one sought, or all of them where that one is missing" (document 02 §5)
@@ -88,9 +86,9 @@ abbrev pub lookup : List ℕ → List (List ℕ) → Lookup
 lookup w ws = record { place = place_among w ws; looked = looked w ws }
 
 -- a place as an index; 0 where the word is missing
-abbrev pub index_of : Place → ℕ
-index_of (At k) = k
-index_of Missing = 0
+abbrev pub index_of : Option ℕ → ℕ
+index_of (Some k) = k
+index_of None = 0
 
 -- the place of w as an index
 unfoldable pub find : List ℕ → List (List ℕ) → ℕ

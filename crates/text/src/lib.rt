@@ -4,17 +4,10 @@
 ghost use Rattle.std.specs.Prelude.{length, get_or, drop, [], ◌≡◌, ◌+◌, ◌-◌, ◌≤◌};
 ghost use Rattle.text.specs.Text.{equals, parted_by, line_words, lines, no_line, lookup, index_of, among};
 
-// Where a word stands among others, counted from 0, or that it is none of them.
-#[derive(Clone, Copy)]
-pub enum Place {
-    At(usize),
-    Missing,
-}
-
 // What looking a word up among others comes to: where it stands, and how many of them were looked at.
 #[derive(Clone, Copy)]
 pub struct Lookup {
-    pub place: Place,
+    pub place: Option<usize>,
     pub looked: usize,
 }
 
@@ -22,17 +15,7 @@ pub struct Lookup {
 pub fn same(a: &[u8], b: &[u8]) -> bool
     ensures { result ≡ equals a.now b.now }
 {
-    if a.len() != b.len() {
-        return false;
-    }
-    let mut i = 0;
-    while i < a.len() {
-        if a[i] != b[i] {
-            return false;
-        }
-        i += 1;
-    }
-    true
+    a == b
 }
 
 // The length of the first piece of s that the byte c parts. Four bytes are looked at in a turn, which is faster than one.
@@ -40,6 +23,7 @@ pub fn piece_length(s: &[u8], c: u8) -> usize
     ensures { result ≡ length (get_or (parted_by c s.now) 0 []) }
 {
     let mut i = 0;
+    // A while: a turn passes four bytes, and the bytes that are left after the last are passed one by one.
     while 4 <= s.len() - i {
         if s[i] == c {
             return i;
@@ -55,56 +39,41 @@ pub fn piece_length(s: &[u8], c: u8) -> usize
         }
         i += 4;
     }
-    while i < s.len() {
-        if s[i] == c {
-            return i;
+    for k in i..s.len() {
+        if s[k] == c {
+            return k;
         }
-        i += 1;
     }
-    i
+    s.len()
 }
 
 // Looks w up among the words of text: where the first stands that is w, and how many words were looked at. It ends there.
 pub fn find(w: &[u8], text: &[u8]) -> Lookup
     ensures { result ≡ lookup w.now (line_words text.now) }
 {
-    let mut rest = text;
     let mut k = 0;
-    let mut looked = 0;
-    let mut e = piece_length(rest, b' ');
-    while e < rest.len() {
-        looked += 1;
-        if same(w, &rest[..e]) {
+    for word in text.split(|c| *c == b' ') {
+        if same(w, word) {
             return Lookup {
-                place: Place::At(k),
-                looked: looked,
+                place: Some(k),
+                looked: k + 1,
             };
         }
-        rest = &rest[e + 1..];
-        e = piece_length(rest, b' ');
         k += 1;
     }
-    looked += 1;
-    if same(w, rest) {
-        Lookup {
-            place: Place::At(k),
-            looked: looked,
-        }
-    } else {
-        Lookup {
-            place: Place::Missing,
-            looked: looked,
-        }
+    Lookup {
+        place: None,
+        looked: k,
     }
 }
 
 // A place as an index; 0 where the word is missing.
-pub fn index_of(p: Place) -> usize
+pub fn index_of(p: Option<usize>) -> usize
     ensures { result ≡ index_of p }
 {
     match p {
-        Place::At(k) => k,
-        Place::Missing => 0,
+        Some(k) => k,
+        None => 0,
     }
 }
 
@@ -151,14 +120,11 @@ pub fn after_lines(s: &[u8], k: usize) -> &[u8]
     ensures shorter { length result.now ≤ length s.now }
 {
     let mut rest = s;
-    let mut left = k;
-    while 0 < left {
+    for _ in 0..k {
         if rest.len() == 0 {
             return rest;
         }
-        let next = next_lines(rest);
-        rest = next;
-        left -= 1;
+        rest = next_lines(rest);
     }
     rest
 }
@@ -167,33 +133,14 @@ pub fn after_lines(s: &[u8], k: usize) -> &[u8]
 pub fn count_words(line: &[u8]) -> usize
     ensures { result ≡ length (line_words line.now) }
 {
-    let mut rest = line;
-    let mut n = 1;
-    let mut e = piece_length(rest, b' ');
-    while e < rest.len() {
-        rest = &rest[e + 1..];
-        e = piece_length(rest, b' ');
-        n += 1;
-    }
-    n
+    line.split(|c| *c == b' ').count()
 }
 
 // Word k of a line, counted from 0; no bytes where it has fewer words.
 pub fn word_at(line: &[u8], k: usize) -> &[u8]
     ensures { result.now ≡ get_or (line_words line.now) k [] }
 {
-    let mut rest = line;
-    let mut left = k;
-    let mut e = piece_length(rest, b' ');
-    while 0 < left {
-        if rest.len() <= e {
-            return &rest[..0];
-        }
-        rest = &rest[e + 1..];
-        e = piece_length(rest, b' ');
-        left -= 1;
-    }
-    &rest[..e]
+    line.split(|c| *c == b' ').nth(k).unwrap_or(&[])
 }
 
 // Whether w is one of the words of text.
@@ -202,7 +149,7 @@ pub fn is_among(w: &[u8], text: &[u8]) -> bool
 {
     let found = find(w, text);
     let place = found.place;
-    let Place::At(_) = place else {
+    let Some(_) = place else {
         return false;
     };
     true

@@ -1,5 +1,6 @@
 -- Laws of decimal numbers: reading a number that was written gives it back, a number has no more digits than its size allows, and a
 -- correctly spelt number is ASCII. Assumes nothing.
+use Rattle.std.specs.Prelude.{None, Option, Some}
 use mathlib.Core.Path.{◌≡◌, refl, ap, ◌∙◌}
 use mathlib.Core.Bool.{Bool, true, false, cond}
 use mathlib.Core.List.{List, [], ◌∷◌, ◌++◌}
@@ -10,8 +11,6 @@ use lib.Dec.{eqb, leb, ltb}
 use lib.IntN.{ℤ, pos}
 use lib.ListN.{length, length-append}
 use borrow.Author.Tests.{le-leb, leb-true, lt-ltb, le-ltb, ltb-true, ltb-false, eqb-true, ne_eqb}
-use Rattle.text_decimals.specs.declared.Numeral.{Numeral}
-use Rattle.text_decimals.specs.declared.Numeral.TheVariants.{Misspelt as misspelt, Number as number}
 use Rattle.text_decimals.specs.Decimal.{is_digit, digits_from, natural, negative, numeral, digits, decimal}
 use Rattle.text.proofs.TextLaws.{cond-right, Every, none, more, every_append}
 
@@ -83,26 +82,26 @@ pub decimal-length : (k n : ℕ) → n < 10 ^ k → 1 ≤ k → length (decimal 
 decimal-length k n h p = written-length k h p (written n)
 
 -- a word that is misspelt is no number
-not-spelt : {X : Type 0} (z : ℤ) → misspelt ≡ number z → X
+not-spelt : {X : Type 0} (z : ℤ) → None ≡ Some z → X
 not-spelt z e = let q : ◌≡◌ {A = ℕ} 0 1 = cc in absurd (omega arith)
 
 -- one digit more
-digits_last : (v u d : ℕ) (ds : List ℕ) → is_digit d ≡ true → digits_from v ds ≡ number (pos u) → digits_from v (ds ++ (d ∷ [])) ≡ number (pos (u * 10 + (d - 48)))
+digits_last : (v u d : ℕ) (ds : List ℕ) → is_digit d ≡ true → digits_from v ds ≡ Some (pos u) → digits_from v (ds ++ (d ∷ [])) ≡ Some (pos (u * 10 + (d - 48)))
 unfolding digits_from
 digits_last v u d [] k e = let q : v ≡ u = cc in rw (k, q) refl
 digits_last v u d (x ∷ xs) k e = go (is_digit x) e (digits_last (v * 10 + (x - 48)) u d xs k)
   where
-    go : (b : Bool) → cond b (digits_from (v * 10 + (x - 48)) xs) misspelt ≡ number (pos u)
-        → (digits_from (v * 10 + (x - 48)) xs ≡ number (pos u) → digits_from (v * 10 + (x - 48)) (xs ++ (d ∷ [])) ≡ number (pos (u * 10 + (d - 48))))
-        → cond b (digits_from (v * 10 + (x - 48)) (xs ++ (d ∷ []))) misspelt ≡ number (pos (u * 10 + (d - 48)))
+    go : (b : Bool) → cond b (digits_from (v * 10 + (x - 48)) xs) None ≡ Some (pos u)
+        → (digits_from (v * 10 + (x - 48)) xs ≡ Some (pos u) → digits_from (v * 10 + (x - 48)) (xs ++ (d ∷ [])) ≡ Some (pos (u * 10 + (d - 48))))
+        → cond b (digits_from (v * 10 + (x - 48)) (xs ++ (d ∷ []))) None ≡ Some (pos (u * 10 + (d - 48)))
     go true q ih = ih q
     go false q ih = not-spelt (pos u) q
 
-written_read : {n : ℕ} {ds : List ℕ} → Written n ds → digits_from 0 ds ≡ number (pos n)
+written_read : {n : ℕ} {ds : List ℕ} → Written n ds → digits_from 0 ds ≡ Some (pos n)
 unfolding digits_from
-written_read (only {n} h) = rw (digit n h) (ap (λ m. number (pos m)) (omega arith))
+written_read (only {n} h) = rw (digit n h) (ap (λ m. Some (pos m)) (omega arith))
 written_read (last {n} {ds} h w) =
-    digits_last 0 (n / 10) (48 + n % 10) ds (digit (n % 10) (omega arith)) (written_read w) ∙ ap (λ m. number (pos m)) (omega arith)
+    digits_last 0 (n / 10) (48 + n % 10) ds (digit (n % 10) (omega arith)) (written_read w) ∙ ap (λ m. Some (pos m)) (omega arith)
 
 -- the first digit is not 0, and no minus
 data Leads : List ℕ → Type 0 where
@@ -120,47 +119,47 @@ unfolding numeral natural
 leads-numeral (leads {d} h) = rw (ne_eqb d 45 (omega arith), ne_eqb d 48 (omega arith)) refl
 
 -- reading a decimal number that was written gives it back
-pub decimal-read : (n : ℕ) → numeral (decimal n) ≡ number (pos n)
+pub decimal-read : (n : ℕ) → numeral (decimal n) ≡ Some (pos n)
 unfolding numeral natural decimal digits
 decimal-read zero = refl
 decimal-read (suc n) = leads-numeral (written-leads (omega arith) (written (suc n))) ∙ written_read (written (suc n))
 
 -- what is correctly spelt is ASCII
 
-digits-ascii : (v : ℕ) (ds : List ℕ) (z : ℤ) → digits_from v ds ≡ number z → Every (λ b. b < 128) ds
+digits-ascii : (v : ℕ) (ds : List ℕ) (z : ℤ) → digits_from v ds ≡ Some z → Every (λ b. b < 128) ds
 unfolding digits_from
 digits-ascii v [] z e = none
 digits-ascii v (d ∷ ds) z e = go (is_digit d) refl e (digits-ascii (v * 10 + (d - 48)) ds z)
   where
-    go : (b : Bool) → is_digit d ≡ b → cond b (digits_from (v * 10 + (d - 48)) ds) misspelt ≡ number z
-        → (digits_from (v * 10 + (d - 48)) ds ≡ number z → Every (λ b. b < 128) ds) → Every (λ b. b < 128) (d ∷ ds)
+    go : (b : Bool) → is_digit d ≡ b → cond b (digits_from (v * 10 + (d - 48)) ds) None ≡ Some z
+        → (digits_from (v * 10 + (d - 48)) ds ≡ Some z → Every (λ b. b < 128) ds) → Every (λ b. b < 128) (d ∷ ds)
     go true k q ih = more (digit-ascii d k) (ih q)
     go false k q ih = not-spelt z q
 
-natural-ascii : (w : List ℕ) (z : ℤ) → natural w ≡ number z → Every (λ b. b < 128) w
+natural-ascii : (w : List ℕ) (z : ℤ) → natural w ≡ Some z → Every (λ b. b < 128) w
 unfolding natural
 natural-ascii [] z e = none
 natural-ascii (d ∷ []) z e = go (eqb d 48) refl e
   where
-    go : (b : Bool) → eqb d 48 ≡ b → cond b (number (pos 0)) (digits_from 0 (d ∷ [])) ≡ number z → Every (λ b. b < 128) (d ∷ [])
+    go : (b : Bool) → eqb d 48 ≡ b → cond b (Some (pos 0)) (digits_from 0 (d ∷ [])) ≡ Some z → Every (λ b. b < 128) (d ∷ [])
     go true k q = more {x = d} (omega (arith, eqb-true d 48 k)) none
     go false k q = digits-ascii 0 (d ∷ []) z q
 natural-ascii (d ∷ x ∷ xs) z e = go (eqb d 48) e
   where
-    go : (b : Bool) → cond b misspelt (digits_from 0 (d ∷ x ∷ xs)) ≡ number z → Every (λ b. b < 128) (d ∷ x ∷ xs)
+    go : (b : Bool) → cond b None (digits_from 0 (d ∷ x ∷ xs)) ≡ Some z → Every (λ b. b < 128) (d ∷ x ∷ xs)
     go true q = not-spelt z q
     go false q = digits-ascii 0 (d ∷ x ∷ xs) z q
 
 -- what has a negative is a number
-negative-spelt : (x : Numeral) (z : ℤ) → negative x ≡ number z → (y : ℤ) × (x ≡ number y)
-negative-spelt misspelt z e = not-spelt z e
-negative-spelt (number y) z e = (y, refl)
+negative-spelt : (x : Option ℤ) (z : ℤ) → negative x ≡ Some z → (y : ℤ) × (x ≡ Some y)
+negative-spelt None z e = not-spelt z e
+negative-spelt (Some y) z e = (y, refl)
 
-pub numeral-ascii : (w : List ℕ) (z : ℤ) → numeral w ≡ number z → Every (λ b. b < 128) w
+pub numeral-ascii : (w : List ℕ) (z : ℤ) → numeral w ≡ Some z → Every (λ b. b < 128) w
 unfolding numeral
 numeral-ascii [] z e = none
 numeral-ascii (d ∷ ds) z e = go (eqb d 45) refl e
   where
-    go : (b : Bool) → eqb d 45 ≡ b → cond b (negative (natural ds)) (natural (d ∷ ds)) ≡ number z → Every (λ b. b < 128) (d ∷ ds)
+    go : (b : Bool) → eqb d 45 ≡ b → cond b (negative (natural ds)) (natural (d ∷ ds)) ≡ Some z → Every (λ b. b < 128) (d ∷ ds)
     go true k q = let y = negative-spelt (natural ds) z q in more {x = d} (omega (arith, eqb-true d 45 k)) (natural-ascii ds y.0 y.1)
     go false k q = natural-ascii (d ∷ ds) z q

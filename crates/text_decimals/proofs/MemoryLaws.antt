@@ -3,9 +3,8 @@ use Prim.Native.Nat.{ℕ, suc, ◌+◌, ◌/◌, ◌%◌, ◌<◌, ◌≤◌}
 use mathlib.Core.Path.{◌≡◌, refl, sym, ap, ◌∙◌}
 use mathlib.Core.List.{List, [], ◌∷◌, ◌++◌, append_assoc}
 use native.Mathlib.Omega.{arith}
-use native.Mathlib.Numerals.{add-one}
 use lib.ListN.{length, get_or, take, drop, set, length-append}
-use lib.Seq.{take-suc, drop-cons, set_at, append_snoc, length-take-le, take-append_seam, drop-append-add, drop-drop, paste-zero}
+use lib.Seq.{drop-cons, set_at, append_snoc, length-take-le, take-append_seam, drop-append-add, drop-drop, paste-zero}
 use Rattle.text_decimals.specs.Decimal.{decimal}
 use Rattle.text_decimals.specs.Memory.{over}
 use Rattle.text_decimals.proofs.DecimalLaws.{decimal-more, decimal-length-more}
@@ -26,14 +25,6 @@ over-more d at t x h =
     ∙ sym (append_snoc (take at d ++ t) x rest)
     ∙ ap (λ (r : List ℕ). r ++ rest) (append_assoc (take at d) t (x ∷ []))
     ∙ ap (λ (m : ℕ). (take at d ++ (t ++ (x ∷ []))) ++ drop m d) e
-
--- a turn of the loop that writes t byte by byte
-pub over-next : (d : List ℕ) (at : ℕ) (t : List ℕ) (i : ℕ) → at + length t ≤ length d → i < length t → set (over d at (take i t)) (at + i) (get_or t i 0) ≡ over d at (take (i + 1) t)
-over-next d at t i k h =
-    let n : length (take i t) ≡ i = length-take-le i t (omega arith) in
-    ap (λ (m : ℕ). set (over d at (take i t)) (at + m) (get_or t i 0)) (sym n)
-    ∙ over-more d at (take i t) (get_or t i 0) (omega arith)
-    ∙ ap (over d at) (sym (take-suc t i 0 h) ∙ ap (λ (m : ℕ). take m t) (sym (add-one i)))
 
 -- two texts, one after the other
 over-seam : (p r b : List ℕ) → over (p ++ r) (length p) b ≡ p ++ b ++ drop (length b) r

@@ -1,4 +1,5 @@
 -- Laws of a number as the code reads it, digit by digit, up to a limit. Assumes nothing.
+use Rattle.std.specs.Prelude.{None, Option, Some, ℤ}
 use Prim.Native.Nat.{ℕ, zero, suc, ◌+◌, ◌-◌, ◌*◌, ◌<◌, ◌≤◌, min}
 use mathlib.Core.Path.{◌≡◌, refl, sym, ap, subst, ◌∙◌}
 use mathlib.Core.Bool.{Bool, true, false, cond}
@@ -14,17 +15,14 @@ use mir.ValLaws.{to_z-of_z}
 use borrow.Author.Tests.{le-leb, lt-leb, eq-eqb, ne_eqb}
 use Rattle.text_decimals.specs.Decimal.{is_digit, digits_from, natural, negative, numeral}
 use Rattle.text_decimals.specs.HeldMagnitude.{most, clamp, clamped, held, to_numeral}
-use Rattle.text_decimals.specs.declared.Numeral.{Numeral}
-use Rattle.text_decimals.specs.declared.Numeral.TheVariants.{Misspelt as misspelt, Number as number}
-use Rattle.text_decimals.specs.declared.Magnitude.TheVariants.{Unspelt as unspelt, Value as value}
 
 -- the steps: a byte below the digits, one above them, a digit, the end
 module _ (v : ℕ) (s : List ℕ) (i : ℕ) where
-  pub digits-below : i < length s → get_or s i 0 < 48 → held (digits_from v (drop i s)) ≡ unspelt
+  pub digits-below : i < length s → get_or s i 0 < 48 → held (digits_from v (drop i s)) ≡ None
   unfolding digits_from held
   digits-below h k = rw (drop-cons s i 0, lt-leb 48 (get_or s i 0) k) refl
 
-  pub digits_above : i < length s → 48 ≤ get_or s i 0 → 57 < get_or s i 0 → held (digits_from v (drop i s)) ≡ unspelt
+  pub digits_above : i < length s → 48 ≤ get_or s i 0 → 57 < get_or s i 0 → held (digits_from v (drop i s)) ≡ None
   unfolding digits_from held
   digits_above h l k = rw (drop-cons s i 0, le-leb 48 (get_or s i 0) l, lt-leb (get_or s i 0) 57 k) refl
 
@@ -32,14 +30,14 @@ module _ (v : ℕ) (s : List ℕ) (i : ℕ) where
   unfolding digits_from
   digits-next h l k = rw (drop-cons s i 0, le-leb 48 (get_or s i 0) l, le-leb (get_or s i 0) 57 k) refl
 
-  pub digits-end : length s ≤ i → v ≤ suc most → held (digits_from v (drop i s)) ≡ value v
+  pub digits-end : length s ≤ i → v ≤ suc most → held (digits_from v (drop i s)) ≡ Some v
   unfolding digits_from held
-  digits-end h k = rw (drop_of_length-le s h) (ap value (omega arith))
+  digits-end h k = rw (drop_of_length-le s h) (ap Some (omega arith))
 
 -- what is held depends on what is up to the limit alone
 pub held-digits : (ds : List ℕ) (v w : ℕ) → min (suc most) v ≡ min (suc most) w → held (digits_from v ds) ≡ held (digits_from w ds)
 unfolding digits_from held
-held-digits [] v w e = ap value e
+held-digits [] v w e = ap Some e
 held-digits (d ∷ ds) v w e = go (is_digit d) refl (held-digits ds (v * 10 + (d - 48)) (w * 10 + (d - 48)) (omega arith))
   where
     go : (b : Bool) → is_digit d ≡ b → held (digits_from (v * 10 + (d - 48)) ds) ≡ held (digits_from (w * 10 + (d - 48)) ds) → held (digits_from v (d ∷ ds)) ≡ held (digits_from w (d ∷ ds))
@@ -47,7 +45,7 @@ held-digits (d ∷ ds) v w e = go (is_digit d) refl (held-digits ds (v * 10 + (d
     go false q ih = rw q refl
 
 -- a number with no minus, by its first byte
-pub natural-none : (s : List ℕ) → length s ≡ 0 → held (natural s) ≡ unspelt
+pub natural-none : (s : List ℕ) → length s ≡ 0 → held (natural s) ≡ None
 unfolding natural held
 natural-none [] h = refl
 natural-none (x ∷ xs) h = absurd (omega arith)
@@ -57,29 +55,29 @@ unfolding natural
 natural-digits [] h n = absurd (h refl)
 natural-digits (x ∷ xs) h n = rw (ne_eqb x 48 n) refl
 
-pub natural-zero : (s : List ℕ) → length s ≡ 1 → get_or s 0 0 ≡ 48 → held (natural s) ≡ value 0
+pub natural-zero : (s : List ℕ) → length s ≡ 1 → get_or s 0 0 ≡ 48 → held (natural s) ≡ Some 0
 unfolding natural held
 natural-zero [] h e = absurd (omega arith)
 natural-zero (x ∷ []) h e = rw (eq-eqb x 48 e) refl
 natural-zero (x ∷ y ∷ ys) h e = absurd (omega arith)
 
-pub natural-leading-zero : (s : List ℕ) → (length s ≡ 0 → ⊥) → (length s ≡ 1 → ⊥) → get_or s 0 0 ≡ 48 → held (natural s) ≡ unspelt
+pub natural-leading-zero : (s : List ℕ) → (length s ≡ 0 → ⊥) → (length s ≡ 1 → ⊥) → get_or s 0 0 ≡ 48 → held (natural s) ≡ None
 unfolding natural held
 natural-leading-zero [] k h e = absurd (k refl)
 natural-leading-zero (x ∷ []) k h e = absurd (h refl)
 natural-leading-zero (x ∷ y ∷ ys) k h e = rw (eq-eqb x 48 e) refl
 
 -- what has no minus is no number below 0
-data Unsigned : Numeral → Type 0 where
-  none : Unsigned misspelt
-  some : (n : ℕ) → Unsigned (number (pos n))
+data Unsigned : Option ℤ → Type 0 where
+  none : Unsigned None
+  some : (n : ℕ) → Unsigned (Some (pos n))
 
 digits-unsigned : (v : ℕ) (ds : List ℕ) → Unsigned (digits_from v ds)
 unfolding digits_from
 digits-unsigned v [] = some v
 digits-unsigned v (d ∷ ds) = go (is_digit d) (digits-unsigned (v * 10 + (d - 48)) ds)
   where
-    go : (b : Bool) → Unsigned (digits_from (v * 10 + (d - 48)) ds) → Unsigned (cond b (digits_from (v * 10 + (d - 48)) ds) misspelt)
+    go : (b : Bool) → Unsigned (digits_from (v * 10 + (d - 48)) ds) → Unsigned (cond b (digits_from (v * 10 + (d - 48)) ds) None)
     go true ih = ih
     go false ih = none
 
@@ -88,31 +86,31 @@ unfolding natural
 natural-unsigned [] = none
 natural-unsigned (d ∷ []) = go (eqb d 48)
   where
-    go : (b : Bool) → Unsigned (cond b (number (pos 0)) (digits_from 0 (d ∷ [])))
+    go : (b : Bool) → Unsigned (cond b (Some (pos 0)) (digits_from 0 (d ∷ [])))
     go true = some 0
     go false = digits-unsigned 0 (d ∷ [])
 natural-unsigned (d ∷ x ∷ xs) = go (eqb d 48)
   where
-    go : (b : Bool) → Unsigned (cond b misspelt (digits_from 0 (d ∷ x ∷ xs)))
+    go : (b : Bool) → Unsigned (cond b None (digits_from 0 (d ∷ x ∷ xs)))
     go true = none
     go false = digits-unsigned 0 (d ∷ x ∷ xs)
 
 -- what is held is enough for what the code answers
-held-positive : {x : Numeral} → Unsigned x → clamped (to_numeral (held x)) ≡ clamped x
+held-positive : {x : Option ℤ} → Unsigned x → clamped (to_numeral (held x)) ≡ clamped x
 unfolding clamped clamp to_numeral held
 held-positive none = refl
-held-positive (some n) = ap (λ m. number (pos m)) (omega arith)
+held-positive (some n) = ap (λ m. Some (pos m)) (omega arith)
 
-held-negative : {x : Numeral} → Unsigned x → clamped (negative (to_numeral (held x))) ≡ clamped (negative x)
+held-negative : {x : Option ℤ} → Unsigned x → clamped (negative (to_numeral (held x))) ≡ clamped (negative x)
 unfolding clamped clamp to_numeral held
 held-negative none = refl
 held-negative (some zero) = refl
 held-negative (some (suc n)) =
     let e : min (suc most) (suc n) ≡ suc (min most n) = omega arith in
-    ap (λ m. clamped (negative (number (pos m)))) e ∙ ap (λ m. number (negsuc m)) (omega arith)
+    ap (λ m. clamped (negative (Some (pos m)))) e ∙ ap (λ m. Some (negsuc m)) (omega arith)
 
 -- a number by its first byte
-pub numeral-none : (s : List ℕ) → length s ≡ 0 → clamped (numeral s) ≡ misspelt
+pub numeral-none : (s : List ℕ) → length s ≡ 0 → clamped (numeral s) ≡ None
 unfolding numeral clamped
 numeral-none [] h = refl
 numeral-none (x ∷ xs) h = absurd (omega arith)
@@ -132,9 +130,9 @@ numeral-negative (x ∷ xs) h e =
 pub natural-read : (n : ℕ) → n ≤ suc most → to_z w64 n ≡ pos n
 natural-read n h = to_z-of_z w64 (pos n) (record { sfits = omega arith })
 
-pub positive-read : (v n : ℕ) → n ≡ min most v → clamped (to_numeral (value v)) ≡ number (to_z w64 n)
+pub positive-read : (v n : ℕ) → n ≡ min most v → clamped (to_numeral (Some v)) ≡ Some (to_z w64 n)
 unfolding clamped clamp to_numeral
-positive-read v n e = ap number (ap pos (sym e) ∙ sym (natural-read n (omega arith)))
+positive-read v n e = ap Some (ap pos (sym e) ∙ sym (natural-read n (omega arith)))
 
 minus-read : (n : ℕ) → n ≤ suc most → pos 0 -ℤ to_z w64 n ≡ neg_ℤ (pos n)
 minus-read n h = ap (λ z. pos 0 -ℤ z) (natural-read n h) ∙ +ℤ_idl (neg_ℤ (pos n))
@@ -146,14 +144,14 @@ minus-fits n h = subst (SFits w64) (sym (minus-read n h)) (go n h)
     go zero h = record { sfits = omega arith }
     go (suc n) h = record { sfits = omega arith }
 
-pub negative-zero : (v : ℕ) → v ≡ 0 → clamped (negative (to_numeral (value v))) ≡ misspelt
+pub negative-zero : (v : ℕ) → v ≡ 0 → clamped (negative (to_numeral (Some v))) ≡ None
 unfolding clamped to_numeral
 negative-zero zero e = refl
 negative-zero (suc v) e = absurd (omega arith)
 
-pub negative-read : (v n : ℕ) → (v ≡ 0 → ⊥) → n ≡ min (suc most) v → clamped (negative (to_numeral (value v))) ≡ number (to_z w64 (of_z w64 (pos 0 -ℤ to_z w64 n)))
+pub negative-read : (v n : ℕ) → (v ≡ 0 → ⊥) → n ≡ min (suc most) v → clamped (negative (to_numeral (Some v))) ≡ Some (to_z w64 (of_z w64 (pos 0 -ℤ to_z w64 n)))
 unfolding clamped clamp to_numeral
 negative-read zero n h e = absurd (h refl)
 negative-read (suc v) n h e =
     let m : n ≡ suc (min most v) = omega arith in
-    ap number (sym (to_z-of_z w64 (pos 0 -ℤ to_z w64 n) (minus-fits n (omega arith)) ∙ minus-read n (omega arith) ∙ ap (λ x. neg_ℤ (pos x)) m))
+    ap Some (sym (to_z-of_z w64 (pos 0 -ℤ to_z w64 n) (minus-fits n (omega arith)) ∙ minus-read n (omega arith) ∙ ap (λ x. neg_ℤ (pos x)) m))

@@ -1,5 +1,6 @@
 -- Laws of spelling: a rightly spelt number is its value in decimal, an integer that was written is read back and holds no byte but a
 -- minus and digits, and a lower number is written with no more digits. Assumes nothing.
+use Rattle.std.specs.Prelude.{None, Option, Some}
 use mathlib.Core.Path.{◌≡◌, refl, sym, ap, ◌∙◌}
 use mathlib.Core.Bool.{Bool, true, false, cond}
 use mathlib.Core.List.{List, [], ◌∷◌, ◌++◌, append_assoc, append-nil}
@@ -10,14 +11,12 @@ use lib.IntN.{ℤ, pos, negsuc}
 use lib.ListN.{length}
 use borrow.Author.Tests.{leb-true, ltb-true, ltb-false, eqb-true, eqb-false, ne_eqb}
 use Rattle.text.specs.Text.{is_empty}
-use Rattle.text_decimals.specs.declared.Numeral.{Numeral}
-use Rattle.text_decimals.specs.declared.Numeral.TheVariants.{Misspelt as misspelt, Number as number}
 use Rattle.text_decimals.specs.Decimal.{is_digit, digits_from, natural, negative, numeral, decimal, integer}
 use Rattle.text.proofs.TextLaws.{cond-left, cond-right, Every, none, more, every_map}
 use Rattle.text_decimals.proofs.DecimalLaws.{decimal-one, decimal-more, decimal-length-one, decimal-length-more, decimal-digits, decimal-read}
 use Rattle.text.proofs.JoinLaws.{Free}
 
-not-spelt : {X : Type 0} (z : ℤ) → misspelt ≡ number z → X
+not-spelt : {X : Type 0} (z : ℤ) → None ≡ Some z → X
 not-spelt z e = let q : ◌≡◌ {A = ℕ} 0 1 = cc in absurd (omega arith)
 
 -- ---- a rightly spelt number is its value in decimal
@@ -32,29 +31,29 @@ decimal-next v d h k =
     let r : 48 + n % 10 ≡ d = omega arith in
     decimal-more n (omega arith) ∙ ap (λ m. decimal m ++ ((48 + n % 10) ∷ [])) q ∙ ap (λ c. decimal v ++ (c ∷ [])) r
 
-digits-back : (v : ℕ) (ds : List ℕ) (z : ℤ) → 1 ≤ v → digits_from v ds ≡ number z → (n : ℕ) × (z ≡ pos n) × (decimal v ++ ds ≡ decimal n)
+digits-back : (v : ℕ) (ds : List ℕ) (z : ℤ) → 1 ≤ v → digits_from v ds ≡ Some z → (n : ℕ) × (z ≡ pos n) × (decimal v ++ ds ≡ decimal n)
 unfolding digits_from
 digits-back v [] z h e = (v, (cc), append-nil (decimal v))
 digits-back v (d ∷ ds) z h e = go (is_digit d) refl e (digits-back (v * 10 + (d - 48)) ds z (omega arith))
   where
-    go : (b : Bool) → is_digit d ≡ b → cond b (digits_from (v * 10 + (d - 48)) ds) misspelt ≡ number z
-        → (digits_from (v * 10 + (d - 48)) ds ≡ number z → (n : ℕ) × (z ≡ pos n) × (decimal (v * 10 + (d - 48)) ++ ds ≡ decimal n))
+    go : (b : Bool) → is_digit d ≡ b → cond b (digits_from (v * 10 + (d - 48)) ds) None ≡ Some z
+        → (digits_from (v * 10 + (d - 48)) ds ≡ Some z → (n : ℕ) × (z ≡ pos n) × (decimal (v * 10 + (d - 48)) ++ ds ≡ decimal n))
         → (n : ℕ) × (z ≡ pos n) × (decimal v ++ (d ∷ ds) ≡ decimal n)
     go true k q ih =
         let r = ih q in
         (r.0, r.1, sym (append_assoc (decimal v) (d ∷ []) ds) ∙ ap (λ t. t ++ ds) (sym (decimal-next v d h k)) ∙ r.2)
     go false k q ih = not-spelt z q
 
-natural-back : (w : List ℕ) (z : ℤ) → natural w ≡ number z → (n : ℕ) × (z ≡ pos n) × (w ≡ decimal n)
+natural-back : (w : List ℕ) (z : ℤ) → natural w ≡ Some z → (n : ℕ) × (z ≡ pos n) × (w ≡ decimal n)
 unfolding natural digits_from
 natural-back [] z e = not-spelt z e
 natural-back (d ∷ ds) z e = go (eqb d 48) refl e
   where
-    zero-alone : (es : List ℕ) → cond (is_empty es) (number (pos 0)) misspelt ≡ number z → eqb d 48 ≡ true → (n : ℕ) × (z ≡ pos n) × (d ∷ es ≡ decimal n)
+    zero-alone : (es : List ℕ) → cond (is_empty es) (Some (pos 0)) None ≡ Some z → eqb d 48 ≡ true → (n : ℕ) × (z ≡ pos n) × (d ∷ es ≡ decimal n)
     zero-alone [] q k = (0, (cc), ap (λ c. c ∷ []) (eqb-true d 48 k) ∙ sym (decimal-one 0 (omega arith)))
     zero-alone (x ∷ xs) q k = not-spelt z q
 
-    first : (b : Bool) → is_digit d ≡ b → eqb d 48 ≡ false → cond b (digits_from (0 * 10 + (d - 48)) ds) misspelt ≡ number z → (n : ℕ) × (z ≡ pos n) × (d ∷ ds ≡ decimal n)
+    first : (b : Bool) → is_digit d ≡ b → eqb d 48 ≡ false → cond b (digits_from (0 * 10 + (d - 48)) ds) None ≡ Some z → (n : ℕ) × (z ≡ pos n) × (d ∷ ds ≡ decimal n)
     first true k f q =
         let low = leb-true 48 d (cond-left (leb 48 d) (leb d 57) k) in
         let high = leb-true d 57 (cond-right (leb 48 d) (leb d 57) k) in
@@ -64,23 +63,23 @@ natural-back (d ∷ ds) z e = go (eqb d 48) refl e
         (r.0, r.1, ap (λ t. t ++ ds) (sym one) ∙ r.2)
     first false k f q = not-spelt z q
 
-    go : (b : Bool) → eqb d 48 ≡ b → cond b (cond (is_empty ds) (number (pos 0)) misspelt) (digits_from 0 (d ∷ ds)) ≡ number z → (n : ℕ) × (z ≡ pos n) × (d ∷ ds ≡ decimal n)
+    go : (b : Bool) → eqb d 48 ≡ b → cond b (cond (is_empty ds) (Some (pos 0)) None) (digits_from 0 (d ∷ ds)) ≡ Some z → (n : ℕ) × (z ≡ pos n) × (d ∷ ds ≡ decimal n)
     go true k q = zero-alone ds q k
     go false k q = first (is_digit d) refl k q
 
 -- what has a negative is above 0
-negative_back : (x : Numeral) (z : ℤ) → negative x ≡ number z → (n : ℕ) × (x ≡ number (pos (suc n))) × (z ≡ negsuc n)
-negative_back misspelt z e = not-spelt z e
-negative_back (number (pos zero)) z e = not-spelt z e
-negative_back (number (pos (suc n))) z e = (n, refl, (cc))
-negative_back (number (negsuc n)) z e = not-spelt z e
+negative_back : (x : Option ℤ) (z : ℤ) → negative x ≡ Some z → (n : ℕ) × (x ≡ Some (pos (suc n))) × (z ≡ negsuc n)
+negative_back None z e = not-spelt z e
+negative_back (Some (pos zero)) z e = not-spelt z e
+negative_back (Some (pos (suc n))) z e = (n, refl, (cc))
+negative_back (Some (negsuc n)) z e = not-spelt z e
 
-pub spelt_back : (w : List ℕ) (z : ℤ) → numeral w ≡ number z → w ≡ integer z
+pub spelt_back : (w : List ℕ) (z : ℤ) → numeral w ≡ Some z → w ≡ integer z
 unfolding numeral integer
 spelt_back [] z e = not-spelt z e
 spelt_back (d ∷ ds) z e = go (eqb d 45) refl e
   where
-    go : (b : Bool) → eqb d 45 ≡ b → cond b (negative (natural ds)) (natural (d ∷ ds)) ≡ number z → d ∷ ds ≡ integer z
+    go : (b : Bool) → eqb d 45 ≡ b → cond b (negative (natural ds)) (natural (d ∷ ds)) ≡ Some z → d ∷ ds ≡ integer z
     go true k q =
         let m = negative_back (natural ds) z q in
         let r = natural-back ds (pos (suc m.0)) m.1 in
@@ -90,17 +89,17 @@ spelt_back (d ∷ ds) z e = go (eqb d 45) refl e
 
 -- ---- an integer that was written is read back
 
-natural-read : (n : ℕ) → natural (decimal n) ≡ number (pos n)
+natural-read : (n : ℕ) → natural (decimal n) ≡ Some (pos n)
 unfolding numeral
 natural-read n = go (decimal n) (decimal-digits n) (decimal-read n)
   where
-    go : (w : List ℕ) → Every (λ d. is_digit d ≡ true) w → numeral w ≡ number (pos n) → natural w ≡ number (pos n)
+    go : (w : List ℕ) → Every (λ d. is_digit d ≡ true) w → numeral w ≡ Some (pos n) → natural w ≡ Some (pos n)
     go [] none e = not-spelt (pos n) e
     go (d ∷ ds) (more k ks) e =
         let low = leb-true 48 d (cond-left (leb 48 d) (leb d 57) k) in
         sym (ap (λ b. cond b (negative (natural ds)) (natural (d ∷ ds))) (ne_eqb d 45 (λ q. omega arith))) ∙ e
 
-pub integer-read : (z : ℤ) → numeral (integer z) ≡ number z
+pub integer-read : (z : ℤ) → numeral (integer z) ≡ Some z
 unfolding numeral integer
 integer-read (pos n) = decimal-read n
 integer-read (negsuc n) = ap negative (natural-read (suc n))

@@ -6,110 +6,73 @@ ghost use Rattle.text_decimals.specs.Decimal.{digits_from, natural, negative, nu
 ghost use Rattle.text_decimals.specs.HeldMagnitude.{most, clamped, held, to_numeral};
 ghost use Rattle.text_decimals.specs.Memory.{over};
 
-// What a word says where a number is wanted.
-#[derive(Clone, Copy)]
-pub enum Numeral {
-    Misspelt,
-    Number(i64),
-}
-
-// What is held of a natural number while it is read.
-#[derive(Clone, Copy)]
-enum Magnitude {
-    Unspelt,
-    Value(u64),
-}
-
 const MOST: u64 = 10_000_000_000;
-
-fn wide(x: u8) -> u64
-    ensures { result ≡ x }
-{
-    x as u64
-}
-
-fn smaller(x: u64, y: u64) -> u64
-    ensures { result ≡ min x y }
-{
-    if x < y { x } else { y }
-}
 
 // One digit more, up to MOST + 1.
 fn append_digit(v: u64, d: u64) -> u64
     requires { (v ≤ suc most) × (d ≤ 9) }
     ensures { result ≡ min (suc most) (v * 10 + d) }
 {
-    smaller(MOST + 1, v * 10 + d)
+    (MOST + 1).min(v * 10 + d)
 }
 
 // The number that the digits s spell.
-fn digits(s: &[u8]) -> Magnitude
+fn digits(s: &[u8]) -> Option<u64>
     ensures { result ≡ held (digits_from 0 s.now) }
 {
     let mut v: u64 = 0;
-    let mut i = 0;
-    while i < s.len() {
-        let d = s[i];
+    for &d in s {
         if d < 48 {
-            return Magnitude::Unspelt;
+            return None;
         }
         if 57 < d {
-            return Magnitude::Unspelt;
+            return None;
         }
-        v = append_digit(v, wide(d - 48));
-        i += 1;
+        v = append_digit(v, u64::from(d - 48));
     }
-    Magnitude::Value(v)
+    Some(v)
 }
 
 // "no leading zero"
-fn natural(s: &[u8]) -> Magnitude
+fn natural(s: &[u8]) -> Option<u64>
     ensures { result ≡ held (natural s.now) }
 {
     if s.len() == 0 {
-        return Magnitude::Unspelt;
+        return None;
     }
     if s[0] != b'0' {
         return digits(s);
     }
-    if s.len() == 1 {
-        Magnitude::Value(0)
-    } else {
-        Magnitude::Unspelt
-    }
+    if s.len() == 1 { Some(0) } else { None }
 }
 
 // The number with no minus in front.
-fn positive(m: Magnitude) -> Numeral
+fn positive(m: Option<u64>) -> Option<i64>
     ensures { result ≡ clamped (to_numeral m) }
 {
-    let Magnitude::Value(v) = m else {
-        return Numeral::Misspelt;
-    };
-    let n = smaller(MOST, v);
-    Numeral::Number(n as i64)
+    let v = m?;
+    let n = MOST.min(v);
+    Some(n as i64)
 }
 
 // The number with a minus in front: "no `-0`".
-fn negative(m: Magnitude) -> Numeral
+fn negative(m: Option<u64>) -> Option<i64>
     ensures { result ≡ clamped (negative (to_numeral m)) }
 {
-    let Magnitude::Value(v) = m else {
-        return Numeral::Misspelt;
-    };
+    let v = m?;
     if v == 0 {
-        return Numeral::Misspelt;
+        return None;
     }
-    let n = smaller(MOST + 1, v);
-    Numeral::Number(-(n as i64))
+    let n = (MOST + 1).min(v);
+    Some(-(n as i64))
 }
 
 // The number that w spells, of any length.
-pub fn read_numeral(w: &[u8]) -> Numeral
+pub fn read_numeral(w: &[u8]) -> Option<i64>
     ensures { result ≡ clamped (numeral w.now) }
 {
     if w.len() == 0 {
-        return Numeral::Misspelt;
+        return None;
     }
     if w[0] != b'-' {
         return positive(natural(w));
@@ -123,12 +86,9 @@ pub fn put(out: &mut [u8], at: usize, text: &[u8]) -> usize
     ensures value { result ≡ at + length text.now }
     ensures out_after { out.new ≡ over out.old at text.now }
 {
-    let mut i = 0;
-    while i < text.len() {
-        out[at + i] = text[i];
-        i += 1;
-    }
-    at + i
+    let end = at + text.len();
+    out[at..end].copy_from_slice(text);
+    end
 }
 
 // Puts n in decimal over out from `at` on, and answers where it ends.

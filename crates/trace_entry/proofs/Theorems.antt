@@ -1,4 +1,5 @@
 -- What is promised of the bytes of a trace (`specs/Promises`), each proved by its name, and where a trace is refused. Assumes nothing.
+use Rattle.std.specs.Prelude.{Ok}
 use Prim.Native.Nat.{ℕ, ◌≤◌}
 use mathlib.Core.Path.{◌≡◌, refl, sym, ap, subst, ◌∙◌}
 use mathlib.Core.List.{List}
@@ -6,7 +7,6 @@ use native.Mathlib.Omega.{arith}
 use lib.ListN.{length}
 use Rattle.refusals.specs.declared.Refusal.{Refusal}
 use Rattle.refusals.specs.Refusals.{place}
-use Rattle.refusals.specs.declared.Acceptance.TheVariants.{Accepted}
 use Rattle.text.specs.Text.{bytes, lines}
 use Rattle.text.proofs.TextLaws.{Every}
 use Rattle.machine.specs.Forward.{Forward}
@@ -75,7 +75,7 @@ module _ (text : List ℕ) (x : Routine) (passes : Passes (lines text)) (is : x 
       let low : x.start.at ≤ 62000 = rw is (start_small (lines text) passes) in
       recording-within 62000 196605 510 x.code near (priced text x passes is) x.budget (begin x.start x.answers) low
 
-  trace-passes : trace_acceptance (trace_text (steps_of x)) ≡ Accepted
+  trace-passes : trace_acceptance (trace_text (steps_of x)) ≡ Ok tt
   trace-passes = text-accepted steps-ranged (omega (arith, steps-few))
 
   trace-fits : length (trace_text (steps_of x)) ≤ 13322
@@ -98,7 +98,7 @@ traces-fit text n bs e =
     (omega (arith, text-some (steps-ranged text x p is)), omega (arith, trace-fits text x p is), a.lent)
 
 -- a replay says that a trace which is accepted and records the steps of the run agrees
-says-agreed : (text bs : List ℕ) (x : Routine) → read_run text ≡ routine x → trace_acceptance bs ≡ Accepted → entries bs ≡ steps_of x → (n : ℕ) → memory_limit ≤ n → replay_answer text bs n ≡ reported (bytes "AGREES\n")
+says-agreed : (text bs : List ℕ) (x : Routine) → read_run text ≡ routine x → trace_acceptance bs ≡ Ok tt → entries bs ≡ steps_of x → (n : ℕ) → memory_limit ≤ n → replay_answer text bs n ≡ reported (bytes "AGREES\n")
 unfolding replay_routine of_acceptance outcome_text
 says-agreed text bs x reads passes records n h =
     replay-passed text bs n h x reads
@@ -114,7 +114,7 @@ traces-kept text n bs e =
     let v = from-run (trace_text (steps_of x)) (run x.code x.budget x.start x.answers) bs a.gives in
     let (p, k, is, short) = run-passes text x a.reads in
     let records : entries bs ≡ steps_of x = ap entries (sym v.prints) ∙ text-read (steps-ranged text x p is) in
-    let passes : trace_acceptance bs ≡ Accepted = ap trace_acceptance (sym v.prints) ∙ trace-passes text x p is in (
+    let passes : trace_acceptance bs ≡ Ok tt = ap trace_acceptance (sym v.prints) ∙ trace-passes text x p is in (
       x,
       v.report,
       record {

@@ -34,19 +34,20 @@ pub record Writing (c : Code) (ns : List ℕ) (answers : List ℤ) (former : Lis
   pub whole_is : made ++ entries_text (recording c left run) ≡ total
 
 pub writing-starts : (c : Code) (ns : List ℕ) (answers : List ℤ) (former : List ℕ) (start : ℕ) (state : states.State) (blocks : List Cell) (n : ℕ)
-    → start ≤ length former → WellFormed state → n ≤ 1000000
-    → Writing c ns answers former start (entries_text (trace c n (whole ns blocks state) answers)) former start state blocks 0 n
+    → start ≤ length former → WellFormed state → n ≤ 1000000 → {left : ℕ} → left ≡ n
+    → Writing c ns answers former start (entries_text (trace c n (whole ns blocks state) answers)) former start state blocks 0 left
 unfolding trace begin
-writing-starts c ns answers former start state blocks n h formed few = record {
-  made = [];
-  wrote = wrote_none former start h;
-  long = refl;
-  run = begin (whole ns blocks state) answers;
-  stands = record { stands_at = refl; to_come = refl; is_stopped = refl };
-  formed = formed;
-  few = omega arith;
-  whole_is = refl;
-}
+writing-starts c ns answers former start state blocks n h formed few e = rw e
+    (record {
+      made = [];
+      wrote = wrote_none former start h;
+      long = refl;
+      run = begin (whole ns blocks state) answers;
+      stands = record { stands_at = refl; to_come = refl; is_stopped = refl };
+      formed = formed;
+      few = omega arith;
+      whole_is = refl;
+    })
 
 recording-more : (c : Code) (n k : ℕ) (r : Run) → n ≡ suc k → recording c n r ≡ cond (is_going c r) (recorded c r ∷ recording c k (once c r)) []
 unfolding recording
@@ -121,14 +122,15 @@ module _ {c : Code} {ns : List ℕ} {answers : List ℤ} {former : List ℕ} {st
             let z : others ≡ [] = ap entries_text (recording-stopped c (left - 1) (once c i.run) ((h.goes_on i.run i.stands is_made).is_stopped ∙ q)) in
             ended (i.made ++ written) (sym (append-nil (i.made ++ written)) ∙ ap (λ t. (i.made ++ written) ++ t) (sym z) ∙ all-is) (wrote-more i.wrote written put)
 
-        pub writing-next : w.stopped ≡ false → length out' ≡ length out → Writing c ns answers former start total out' e' w.state w.blocks w.taken (left - 1)
-        writing-next q l = record {
-          made = i.made ++ written;
-          wrote = wrote-more i.wrote written put;
-          long = l ∙ i.long;
-          run = once c i.run;
-          stands = subst (λ b. Stands ns answers w.taken w.state w.blocks b (once c i.run)) q (h.goes_on i.run i.stands is_made);
-          formed = h.formed;
-          few = omega (arith, h.few, i.few);
-          whole_is = all-is;
-        }
+        pub writing-next : w.stopped ≡ false → length out' ≡ length out → {left' : ℕ} → left' ≡ left - 1 → Writing c ns answers former start total out' e' w.state w.blocks w.taken left'
+        writing-next q l n = rw n
+            (record {
+              made = i.made ++ written;
+              wrote = wrote-more i.wrote written put;
+              long = l ∙ i.long;
+              run = once c i.run;
+              stands = subst (λ b. Stands ns answers w.taken w.state w.blocks b (once c i.run)) q (h.goes_on i.run i.stands is_made);
+              formed = h.formed;
+              few = omega (arith, h.few, i.few);
+              whole_is = all-is;
+            })

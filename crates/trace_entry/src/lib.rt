@@ -14,13 +14,12 @@ ghost use Rattle.trace_entry.specs.Answers.{trace_routine, trace_answer};
 ghost use Rattle.trace_entry.specs.Promises.{TracesRun};
 ghost use Rattle.trace_entry.specs.Held.{Records, entry_of, trace_in, Roomy};
 
-use answers::Answer;
 use cells::Cell;
 use file_check::Reader;
 use file_reader::Routine;
 use machine_state::State;
 use machine_step::Next;
-use refusals::Acceptance;
+use refusals::Refusal;
 
 // The step that a run is at, as it is recorded: whether it is made, and what it costs; and the run after it, apart from its sums: whether
 // STOP was made, how many answers its calls asked for, its state and its blocks.
@@ -112,8 +111,7 @@ fn put_entries(
     let mut state = start;
     let mut blocks = initial;
     let mut taken = 0;
-    let mut left = budget;
-    while 0 < left {
+    for _ in 0..budget {
         let step = record_step(code, answers, taken, state, blocks);
         if !step.made {
             return e;
@@ -126,7 +124,6 @@ fn put_entries(
         state = step.state;
         let reached = step.blocks;
         blocks = reached;
-        left -= 1;
     }
     e
 }
@@ -156,34 +153,23 @@ fn put_trace(routine: Routine, out: &mut [u8]) -> usize
 }
 
 // The trace of a routine's run.
-fn trace_routine(routine: Routine, out: &mut [u8]) -> Answer
+fn trace_routine(routine: Routine, out: &mut [u8]) -> Result<usize, Refusal>
     requires { Limited routine × Roomy (trace_routine (routine_in routine)) (length out.old) }
     ensures value { result ≡ answer_of (trace_routine (routine_in routine)) }
     ensures out_after { out.new ≡ memory (trace_routine (routine_in routine)) out.old }
 {
     let ran = routine_figures::ran(routine);
-    let verdict = ran.verdict;
-    match verdict {
-        Acceptance::Accepted => {
-            let n = put_trace(routine, out);
-            Answer::Reported(n)
-        }
-        Acceptance::Refused(refusal) => Answer::Refused(refusal),
-    }
+    ran.verdict?;
+    Ok(put_trace(routine, out))
 }
 
 // The trace of a routine file's run in the lent memory, or a refusal.
-pub fn trace(text: &[u8], out: &mut [u8]) -> Answer
+pub fn trace(text: &[u8], out: &mut [u8]) -> Result<usize, Refusal>
     ensures value { result ≡ answer_of (trace_answer text.now (length out.old)) }
     ensures out_after { out.new ≡ memory (trace_answer text.now (length out.old)) out.old }
     ensures traces { Delivers (report_length result) out.new (TracesRun text.now) }
 {
-    let verdict = file_entry::check(Reader::Run, 32768, out.len(), text);
-    match verdict {
-        Acceptance::Accepted => {
-            let routine = file_reader::routine_of(text);
-            trace_routine(routine, out)
-        }
-        Acceptance::Refused(refusal) => Answer::Refused(refusal),
-    }
+    file_entry::check(Reader::Run, 32768, out.len(), text)?;
+    let routine = file_reader::routine_of(text);
+    trace_routine(routine, out)
 }

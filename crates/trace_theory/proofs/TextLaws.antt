@@ -1,4 +1,5 @@
 -- Laws of the text of a trace: its lines, that it is a trace which no refusal meets, the steps that it records, and its length. Assumes nothing.
+use Rattle.std.specs.Prelude.{None, Ok}
 use Prim.Native.Nat.{ℕ, suc, ◌+◌, ◌*◌, ◌≤◌}
 use mathlib.Core.Path.{◌≡◌, refl, sym, ap, ap₂, ◌∙◌}
 use mathlib.Core.Bool.{true}
@@ -7,7 +8,6 @@ use native.Mathlib.Omega.{arith}
 use lib.IntN.{pos, nat_abs}
 use lib.ListN.{length, get_or, drop, length-append}
 use borrow.Author.Tests.{lt-ltb, le-leb, leb-true}
-use Rattle.refusals.specs.declared.Acceptance.TheVariants.{Accepted}
 use Rattle.text.specs.Text.{bytes, equals, line_words, Line, lines, all, lines_text}
 use Rattle.text_decimals.specs.Decimal.{numeral, decimal}
 use Rattle.text.proofs.TextLaws.{Every, none, more, every_append, every_map, cond-left}
@@ -15,7 +15,6 @@ use Rattle.text.proofs.LineLaws.{ended_line}
 use Rattle.text_decimals.proofs.DecimalLaws.{decimal-digits, decimal-length, decimal-read}
 use Rattle.numbers.specs.Numbers.{naturals, within}
 use Rattle.instructions.specs.Kinds.{addresses}
-use Rattle.file_format.specs.declared.RefusedLine.TheVariants.{Nowhere as nowhere}
 use Rattle.file_format.specs.Rows.{is_numeral, value_of, value, at}
 use Rattle.file_format.specs.Routine.{natural_in}
 use Rattle.file_format.proofs.RangeLaws.{inside_is}
@@ -121,12 +120,12 @@ text-lines es =
     ∙ lines-of-text (more {x = ended_line (bytes "AT CYCLES")} (text-free 10 (bytes "AT CYCLES") refl) (all-free es))
     ∙ ap (λ ls. ended_line (bytes "AT CYCLES") ∷ ls) (ended-again es)
 
-laid : (k : ℕ) (es : List Entry) → k + length es ≤ entry_limit → earliest line_laid_out (suc k) (all_lines es) ≡ nowhere
+laid : (k : ℕ) (es : List Entry) → k + length es ≤ entry_limit → earliest line_laid_out (suc k) (all_lines es) ≡ None
 unfolding earliest line_laid_out text_laid_out
 laid k [] h = refl
 laid k (e ∷ es) h = rw (lt-ltb k entry_limit (omega arith), line-laid e) (laid (suc k) es (omega arith))
 
-ranged : (k : ℕ) {es : List Entry} → Every Ranged es → earliest line_in_range (suc k) (all_lines es) ≡ nowhere
+ranged : (k : ℕ) {es : List Entry} → Every Ranged es → earliest line_in_range (suc k) (all_lines es) ≡ None
 unfolding earliest line_in_range text_in_range
 ranged k none = refl
 ranged k (more {x = e} h hs) = rw (line-ranged e h) (ranged (suc k) hs)
@@ -153,7 +152,7 @@ module _ {es : List Entry} (h : Every Ranged es) where
   unfolding entries
   text-read = ap (λ ls. map (λ l. entry_of l.text) (drop 1 ls)) (text-lines es) ∙ read_again h
 
-  pub text-accepted : length es ≤ entry_limit → trace_acceptance (trace_text es) ≡ Accepted
+  pub text-accepted : length es ≤ entry_limit → trace_acceptance (trace_text es) ≡ Ok tt
   unfolding earliest equals line_laid_out text_laid_out line_in_range text_in_range
   text-accepted few =
       sym

@@ -1,5 +1,6 @@
 -- Laws of the export: the words of instructions are decoded to the same instructions, how many bytes they are, and an offset
 -- leads back to the line that it was made of. Assumes nothing.
+use Rattle.std.specs.Prelude.{Some}
 use mathlib.Core.Path.{◌≡◌, refl, sym, ap, ◌∙◌}
 use mathlib.Core.Bool.{Bool, true, false, cond}
 use mathlib.Core.List.{List, [], ◌∷◌, ◌++◌, map}
@@ -17,7 +18,6 @@ use Rattle.text.proofs.TextLaws.{Every, more}
 use Rattle.text.proofs.TextLaws as every
 use Rattle.instructions.specs.Kinds.{kinds, kind_at}
 use Rattle.instructions.proofs.ColumnLaws.{column-at}
-use Rattle.text.specs.declared.Place.TheVariants.{At as at}
 use Rattle.instructions.specs.Opcodes.{place_from}
 use Rattle.instructions.proofs.OpcodeLaws.{kind-of-opcode}
 use Rattle.words.specs.Words.{word_bits, Word, whole, words_of, all_bytes}
@@ -104,16 +104,16 @@ position_from i zero (x ∷ xs) h = omega arith
 position_from i (suc n) (x ∷ xs) h = let k = position_from (i + size_of x.kind) n xs (omega arith) in omega arith
 
 -- so that each is found at its own line
-position-found : (c i n : ℕ) (xs : List Op) → n < length xs → place_from c (get_or (positions i xs) n 0) (positions i xs) ≡ at (c + n)
+position-found : (c i n : ℕ) (xs : List Op) → n < length xs → place_from c (get_or (positions i xs) n 0) (positions i xs) ≡ Some (c + n)
 unfolding positions place_from
 position-found c i n [] h = absurd (omega arith)
-position-found c i zero (x ∷ xs) h = rw (eq-eqb i i refl) (ap at (omega arith))
+position-found c i zero (x ∷ xs) h = rw (eq-eqb i i refl) (ap Some (omega arith))
 position-found c i (suc n) (x ∷ xs) h =
     let s = size_small x.kind in
     let k = position_from (i + size_of x.kind) n xs (omega arith) in
     let p = get_or (positions (i + size_of x.kind) xs) n 0 in
     let d : p ≡ i → ⊥ = λ e. omega arith in
-    rw (ne_eqb p i d) (position-found (suc c) (i + size_of x.kind) n xs (omega arith) ∙ ap at (omega arith))
+    rw (ne_eqb p i d) (position-found (suc c) (i + size_of x.kind) n xs (omega arith) ∙ ap Some (omega arith))
 
 -- an offset and its position come to the index that it leads to
 offset-back : (p a : ℕ) → pos a +ℤ (pos p -ℤ pos a) ≡ pos p
@@ -127,13 +127,13 @@ offset-back p (suc b) = go (ltb p (suc b)) refl
     go false e = let h = ltb-false p (suc b) e in ap pos (omega arith)
 
 -- a branch to line n of the code, exported and decoded, leads to instruction n
-pub target-back : (xs : List Op) (i n : ℕ) → n < length xs → number_at (items_from (positions 0 xs) 0 xs) (pos (suc i) +ℤ (pos (get_or (positions 0 xs) n 0) -ℤ pos (suc i))) ≡ at n
+pub target-back : (xs : List Op) (i n : ℕ) → n < length xs → number_at (items_from (positions 0 xs) 0 xs) (pos (suc i) +ℤ (pos (get_or (positions 0 xs) n 0) -ℤ pos (suc i))) ≡ Some n
 unfolding number_at
 target-back xs i n h =
     ap (number_at (items_from (positions 0 xs) 0 xs)) (offset-back (get_or (positions 0 xs) n 0) (suc i))
     ∙ ap (place_from 0 (get_or (positions 0 xs) n 0)) (indices-are (positions 0 xs) 0 xs)
     ∙ position-found 0 0 n xs h
-    ∙ ap at (omega arith)
+    ∙ ap Some (omega arith)
 
 -- ---- the bytes of instructions are decoded to them
 

@@ -1,4 +1,5 @@
 -- Laws of the table that holds for each index the number of the instruction whose opcode stands there: how it is filled. Assumes nothing.
+use Rattle.std.specs.Prelude.{None, Option, Some}
 use mathlib.Core.Path.{◌≡◌, refl, sym, ap, ◌∙◌}
 use mathlib.Core.Bool.{Bool, true, false, cond}
 use mathlib.Core.List.{List, [], ◌∷◌, map}
@@ -10,10 +11,7 @@ use lib.IntN.{ℤ}
 use lib.ListN.{length, get_or, set, drop, replicate, length-set}
 use lib.Seq.{get_or-set_same, get_or-set_other}
 use borrow.Author.Tests.{lt-ltb, eqb-true, eqb-false}
-use Rattle.text.specs.declared.Place.{Place}
-use Rattle.text.specs.declared.Place.TheVariants.{At as at, Missing as missing}
 use Rattle.instructions.specs.Opcodes.{place_from}
-use Rattle.words.specs.declared.Head.TheVariants as heads
 use Rattle.words.specs.Words.{Word}
 use Rattle.words.specs.Decoding.{item_of, opcode, decoded_words, decoded, items, fault_from, size_of}
 use Rattle.words.specs.Held.{head_of, Readable, Numbered}
@@ -25,13 +23,13 @@ abbrev indices : ℕ → List Word → List ℕ
 indices i ws = map (λ x. x.index) (items (decoded_words opcode i ws))
 
 -- what the table holds, or else what is still to be found
-abbrev held_or : ℕ → Place → Place
-held_or v p = cond (ltb v 1024) (at v) p
+abbrev held_or : ℕ → Option ℕ → Option ℕ
+held_or v p = cond (ltb v 1024) (Some v) p
 
 -- the table t once the instructions before index i, c of them, are entered, where those of the words ws are left of those of `all`
 pub record Numbering (all : List Word) (t : List ℕ) (i c : ℕ) (ws : List Word) : Type 0 where
   pub listed : ℕ
-  pub sound : fault_from listed c (decoded_words opcode i ws) ≡ missing
+  pub sound : fault_from listed c (decoded_words opcode i ws) ≡ None
   pub near : i ≤ 2 * c
   pub few : c ≤ 1024
   pub long : length t ≡ 2048
@@ -56,13 +54,13 @@ numbering-starts ws t r e l = record {
 }
 
 -- what is read next
-pub sound-read : (n c i k : ℕ) (z : ℤ) (ws : List Word) → Read i k z ws → fault_from n c (decoded_words opcode i ws) ≡ missing
-    → (c < 1024) × (fault_from n (suc c) (decoded_words opcode (i + size_of k) (drop (size_of k) ws)) ≡ missing)
+pub sound-read : (n c i k : ℕ) (z : ℤ) (ws : List Word) → Read i k z ws → fault_from n c (decoded_words opcode i ws) ≡ None
+    → (c < 1024) × (fault_from n (suc c) (decoded_words opcode (i + size_of k) (drop (size_of k) ws)) ≡ None)
 sound-read n c i k z ws r e = sound-item n c (item_of i k z) (decoded_words opcode (i + size_of k) (drop (size_of k) ws)) (sym (ap (fault_from n c) r.first) ∙ e)
 
 module _ {all : List Word} {t : List ℕ} {i c : ℕ} {ws : List Word} (s : Numbering all t i c ws) where
   -- what is no instruction is not there
-  pub numbering-reads : {X : Type 0} → 0 < length ws → head_of ws ≡ heads.Unreadable → X
+  pub numbering-reads : {X : Type 0} → 0 < length ws → head_of ws ≡ None → X
   numbering-reads l h =
       let e = sym s.sound ∙ fault-unread s.listed c i ws l h in
       let x : ◌≡◌ {A = ℕ} 0 1 = cc in

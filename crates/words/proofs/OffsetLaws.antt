@@ -1,4 +1,5 @@
 -- Laws of offsets: where they lead, as the code tests it, and one turn of the pass over them. Assumes nothing.
+use Rattle.std.specs.Prelude.{None, Option, Some}
 use mathlib.Core.Path.{◌≡◌, refl, sym, ap, subst, ◌∙◌}
 use mathlib.Core.Bool.{Bool, true, false, false≢true}
 use mathlib.Core.List.{List, [], ◌∷◌}
@@ -14,11 +15,8 @@ use mir.ValLaws.{to_z-of_z}
 use borrow.Author.Tests.{ltb-true}
 use Rattle.instructions.specs.declared.Argument.{Argument}
 use Rattle.instructions.specs.declared.Argument.TheVariants.{Absent, Target, Primitive, Within}
-use Rattle.text.specs.declared.Place.{Place}
-use Rattle.text.specs.declared.Place.TheVariants.{At as at, Missing as missing}
 use Rattle.instructions.specs.Kinds.{kind_at}
 use Rattle.instructions.proofs.ColumnLaws.{get_d_any}
-use Rattle.words.specs.declared.Head.TheVariants as heads
 use Rattle.words.specs.Words.{Word}
 use Rattle.words.specs.Decoding.{Item, item_of, opcode, decoded_words, decoded, items, fault_from, word_fault, landing, number_at, is_found, lands, offset_fault, or_offsets, code_fault, size_of}
 use Rattle.words.specs.Held.{head_of, Readable, number_held, number_in, Numbered, lands_in}
@@ -28,7 +26,7 @@ use Rattle.words.proofs.NumberingLaws.{sound-read}
 
 -- ---- the number at an index
 
-pub number-negative : (t : List ℕ) (z : ℤ) → lt_z z (pos 0) ≡ true → number_in t z ≡ missing
+pub number-negative : (t : List ℕ) (z : ℤ) → lt_z z (pos 0) ≡ true → number_in t z ≡ None
 unfolding number_in
 number-negative t (pos n) e = let h : n < 0 = ltb-true n 0 e in absurd (omega arith)
 number-negative t (negsuc n) e = refl
@@ -44,7 +42,7 @@ index-fits z h = subst (λ x. Fits w64 (nat_abs x)) (sym (to_z-of_z w64 z h)) (g
 -- an index from 0 on
 pub record Natural (t : List ℕ) (z : ℤ) : Type 0 where
   pub natural : T (non_neg z)
-  pub past : length t ≤ nat_abs z → number_in t z ≡ missing
+  pub past : length t ≤ nat_abs z → number_in t z ≡ None
   pub number : nat_abs z < length t → number_in t z ≡ number_held (get_or t (nat_abs z) 0)
 
 pub index-natural : (t : List ℕ) (z : ℤ) → lt_z z (pos 0) ≡ false → Natural t z
@@ -70,7 +68,7 @@ lands-in d x Primitive = refl
 lands-in d x (Within r) = refl
 
 -- a target, as the code looks it up
-pub target-lands : (t : List ℕ) {x y z : ℤ} {p : Place} {b : Bool} {a : Argument} → x ≡ z → y ≡ x → p ≡ number_in t y → b ≡ is_found p → a ≡ Target → b ≡ lands_in t z a
+pub target-lands : (t : List ℕ) {x y z : ℤ} {p : Option ℕ} {b : Bool} {a : Argument} → x ≡ z → y ≡ x → p ≡ number_in t y → b ≡ is_found p → a ≡ Target → b ≡ lands_in t z a
 unfolding lands_in
 target-lands t {x} {y} {z} {p} {b} {a} e f g h k = h ∙ ap is_found (g ∙ ap (number_in t) (f ∙ e)) ∙ rw k refl
 
@@ -80,7 +78,7 @@ target-lands t {x} {y} {z} {p} {b} {a} e f g h k = h ∙ ap is_found (g ∙ ap (
 pub record Ahead (i : ℕ) (ws : List Word) : Type 0 where
   pub listed : ℕ
   pub before : ℕ
-  pub sound : fault_from listed before (decoded_words opcode i ws) ≡ missing
+  pub sound : fault_from listed before (decoded_words opcode i ws) ≡ None
   pub near : i ≤ 2 * before
 
 pub ahead-starts : {ws : List Word} → Readable ws → Ahead 0 ws
@@ -88,7 +86,7 @@ unfolding decoded
 ahead-starts r = record { listed = r.listed; before = 0; sound = r.sound; near = omega arith }
 
 module _ {i : ℕ} {ws : List Word} (a : Ahead i ws) where
-  pub ahead-reads : {X : Type 0} → 0 < length ws → head_of ws ≡ heads.Unreadable → X
+  pub ahead-reads : {X : Type 0} → 0 < length ws → head_of ws ≡ None → X
   ahead-reads l h =
       let e = sym a.sound ∙ fault-unread a.listed a.before i ws l h in
       let x : ◌≡◌ {A = ℕ} 0 1 = cc in
@@ -108,7 +106,7 @@ module _ {i : ℕ} {ws : List Word} (a : Ahead i ws) where
 -- ---- one turn of the pass
 
 module _ (xs : List Item) {i k : ℕ} {z : ℤ} {ws : List Word} (r : Read i k z ws) where
-  pub offset-here : lands xs (item_of i k z) (kind_at k).argument ≡ false → offset_fault xs (items (decoded_words opcode i ws)) ≡ at (suc i)
+  pub offset-here : lands xs (item_of i k z) (kind_at k).argument ≡ false → offset_fault xs (items (decoded_words opcode i ws)) ≡ Some (suc i)
   unfolding items offset_fault
   offset-here e = ap (λ es. offset_fault xs (items es)) r.first ∙ rw e refl
 
@@ -117,22 +115,22 @@ module _ (xs : List Item) {i k : ℕ} {z : ℤ} {ws : List Word} (r : Read i k z
   unfolding items offset_fault
   offset-next e p q = ap (λ es. offset_fault xs (items es)) r.first ∙ rw e (rw (p, q) refl)
 
-pub offset-none : (xs : List Item) (i : ℕ) (ws : List Word) → decoded_words opcode i ws ≡ [] → offset_fault xs (items (decoded_words opcode i ws)) ≡ missing
+pub offset-none : (xs : List Item) (i : ℕ) (ws : List Word) → decoded_words opcode i ws ≡ [] → offset_fault xs (items (decoded_words opcode i ws)) ≡ None
 unfolding items offset_fault
 offset-none xs i ws e = ap (λ es. offset_fault xs (items es)) e
 
 -- ---- both passes
 
 -- words with no fault in the first pass are readable
-pub readable_of : (n : ℕ) (ws : List Word) → word_fault n ws ≡ missing → Readable ws
+pub readable_of : (n : ℕ) (ws : List Word) → word_fault n ws ≡ None → Readable ws
 unfolding word_fault
 readable_of n [] e = let x : ◌≡◌ {A = ℕ} 0 1 = cc in absurd (omega arith)
 readable_of n (w ∷ ws) e = record { listed = n; sound = e }
 
-pub fault-first : (n i : ℕ) (ws : List Word) → word_fault n ws ≡ at i → code_fault n ws ≡ at i
+pub fault-first : (n i : ℕ) (ws : List Word) → word_fault n ws ≡ Some i → code_fault n ws ≡ Some i
 unfolding code_fault or_offsets
 fault-first n i ws e = ap (λ p. or_offsets p (items (decoded ws))) e
 
-pub fault-then : (n : ℕ) (ws : List Word) → word_fault n ws ≡ missing → code_fault n ws ≡ offset_fault (items (decoded ws)) (items (decoded ws))
+pub fault-then : (n : ℕ) (ws : List Word) → word_fault n ws ≡ None → code_fault n ws ≡ offset_fault (items (decoded ws)) (items (decoded ws))
 unfolding code_fault or_offsets
 fault-then n ws e = ap (λ p. or_offsets p (items (decoded ws))) e

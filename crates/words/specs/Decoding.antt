@@ -1,9 +1,7 @@
 -- The instructions that words hold, with their positions, and what is wrong with words: refusal 12. (document 02, §2)
-use Rattle.std.specs.Prelude.{◌+ℤ◌, ◌∷◌}
+use Rattle.std.specs.Prelude.{◌+ℤ◌, ◌∷◌, None, Option, Some}
 use Rattle.refusals.specs.Library.{ℕ, suc, ltb, ℤ, pos, negsuc, Bool, true, false, cond, List, [], map}
 use Rattle.numbers.specs.Numbers.{signed}
-use Rattle.text.specs.declared.Place.{Place}
-use Rattle.text.specs.declared.Place.TheVariants.{At as at, Missing as missing}
 use Rattle.instructions.specs.declared.Argument.{Argument}
 use Rattle.instructions.specs.declared.Argument.TheVariants.{Absent, Target, Primitive, Within}
 use Rattle.instructions.specs.Kinds.{kind_at}
@@ -40,9 +38,9 @@ pub data Due : Type 0 where
   argument : ℕ → ℕ → Due
 
 -- the opcode at i, with what follows by what is due: "an opcode outside the 61 kinds"
-unfoldable pub coded : ℕ → (Due → List Decoded) → Place → List Decoded
-coded i next missing = unreadable i ∷ []
-coded i next (at k) = cond (has_argument (kind_at k).argument) (next (argument i k)) (item (item_of i k (pos 0)) ∷ next opcode)
+unfoldable pub coded : ℕ → (Due → List Decoded) → Option ℕ → List Decoded
+coded i next None = unreadable i ∷ []
+coded i next (Some k) = cond (has_argument (kind_at k).argument) (next (argument i k)) (item (item_of i k (pos 0)) ∷ next opcode)
 
 -- the words from index i on: "a cut-off word or argument", "A cut-off argument counts at its opcode", "Argument words are signed"
 unfoldable pub decoded_words : Due → ℕ → List Word → List Decoded
@@ -78,15 +76,15 @@ call_listed n z Primitive = is_place n z
 call_listed n z (Within r) = true
 
 -- "a 1,025th instruction": k stand before; the index of the earliest word at fault
-unfoldable pub fault_from : ℕ → ℕ → List Decoded → Place
-fault_from n k [] = missing
-fault_from n k (unreadable i ∷ es) = at i
+unfoldable pub fault_from : ℕ → ℕ → List Decoded → Option ℕ
+fault_from n k [] = None
+fault_from n k (unreadable i ∷ es) = Some i
 fault_from n k (item x ∷ es) =
-    cond (ltb k 1024) (cond (call_listed n x.argument (kind_at x.kind).argument) (fault_from n (suc k) es) (at (suc x.index))) (at x.index)
+    cond (ltb k 1024) (cond (call_listed n x.argument (kind_at x.kind).argument) (fault_from n (suc k) es) (Some (suc x.index))) (Some x.index)
 
 -- "with no word at all the place is 0"
-unfoldable pub word_fault : ℕ → List Word → Place
-word_fault n [] = at 0
+unfoldable pub word_fault : ℕ → List Word → Option ℕ
+word_fault n [] = Some 0
 word_fault n (w ∷ ws) = fault_from n 0 (decoded (w ∷ ws))
 
 -- ---- refusal 12, offsets
@@ -96,14 +94,14 @@ abbrev pub landing : Item → ℤ
 landing x = pos (suc x.index) +ℤ x.argument
 
 -- which instruction has its opcode at an index; none: "an offset that lands inside an instruction or outside the words"
-unfoldable pub number_at : List Item → ℤ → Place
+unfoldable pub number_at : List Item → ℤ → Option ℕ
 number_at xs (pos n) = place_from 0 n (map (λ x. x.index) xs)
-number_at xs (negsuc n) = missing
+number_at xs (negsuc n) = None
 
 -- whether there is one
-abbrev pub is_found : Place → Bool
-is_found missing = false
-is_found (at k) = true
+abbrev pub is_found : Option ℕ → Bool
+is_found None = false
+is_found (Some k) = true
 
 -- whether an offset, where the kind has one, lands on an opcode
 unfoldable pub lands : List Item → Item → Argument → Bool
@@ -113,17 +111,17 @@ lands xs x Primitive = true
 lands xs x (Within r) = true
 
 -- the index of the earliest offset at fault, among all instructions xs
-unfoldable pub offset_fault : List Item → List Item → Place
-offset_fault xs [] = missing
-offset_fault xs (y ∷ ys) = cond (lands xs y (kind_at y.kind).argument) (offset_fault xs ys) (at (suc y.index))
+unfoldable pub offset_fault : List Item → List Item → Option ℕ
+offset_fault xs [] = None
+offset_fault xs (y ∷ ys) = cond (lands xs y (kind_at y.kind).argument) (offset_fault xs ys) (Some (suc y.index))
 
 -- "Offsets are looked at only when none of the others is found."
-unfoldable pub or_offsets : Place → List Item → Place
-or_offsets (at i) xs = at i
-or_offsets missing xs = offset_fault xs xs
+unfoldable pub or_offsets : Option ℕ → List Item → Option ℕ
+or_offsets (Some i) xs = Some i
+or_offsets None xs = offset_fault xs xs
 
 -- the index of the word that an import refuses, where n primitives are listed
-unfoldable pub code_fault : ℕ → List Word → Place
+unfoldable pub code_fault : ℕ → List Word → Option ℕ
 code_fault n ws = or_offsets (word_fault n ws) (items (decoded ws))
 
 -- how many words a kind takes

@@ -10,27 +10,16 @@ ghost use Rattle.words.specs.Decoding.{decoded, items, has_argument, is_place, c
 ghost use Rattle.words.specs.Held.{with_argument, head_of, Readable, number_in, Numbered, lands_in};
 
 use instructions::Argument;
-use text::Place;
-
-// What stands at the head of words: a kind by its place in the table with its argument word, or no instruction.
-#[derive(Clone, Copy)]
-pub enum Head {
-    Unreadable,
-    Instruction(usize, i32),
-}
-
-fn wide(x: u8) -> u32
-    ensures { (result ≡ x) × (result < 256) }
-{
-    x as u32
-}
 
 // The word that the first four bytes make, the lowest first.
 pub fn first_word(bytes: &[u8]) -> u32
     requires { 4 ≤ length bytes.now }
     ensures { result ≡ little_endian (get_or bytes.now 0 0) (get_or bytes.now 1 0) (get_or bytes.now 2 0) (get_or bytes.now 3 0) }
 {
-    wide(bytes[0]) + wide(bytes[1]) * 256 + wide(bytes[2]) * 65536 + wide(bytes[3]) * 16777216
+    u32::from(bytes[0])
+        + u32::from(bytes[1]) * 256
+        + u32::from(bytes[2]) * 65536
+        + u32::from(bytes[3]) * 16777216
 }
 
 // Whether a kind has an argument word.
@@ -50,30 +39,28 @@ pub fn size_of(k: usize) -> usize
 }
 
 // Kind k with its argument word, from the words after its opcode.
-fn with_argument(k: usize, words: &[u8]) -> Head
+fn with_argument(k: usize, words: &[u8]) -> Option<(usize, i32)>
     ensures { result ≡ with_argument k (words_of words.now) }
 {
     if words.len() < 4 {
-        return Head::Unreadable;
+        return None;
     }
-    Head::Instruction(k, numbers::signed(first_word(words)))
+    Some((k, numbers::signed(first_word(words))))
 }
 
 // The instruction at the head of words, where `coded` has the kinds by their opcodes.
-pub fn read_head(coded: &[u8; 144], words: &[u8]) -> Head
+pub fn read_head(coded: &[u8; 144], words: &[u8]) -> Option<(usize, i32)>
     requires { ByOpcode coded.now }
     ensures { result ≡ head_of (words_of words.now) }
 {
     if words.len() < 4 {
-        return Head::Unreadable;
+        return None;
     }
-    let Place::At(k) = instructions::kind_coded(coded, first_word(words)) else {
-        return Head::Unreadable;
-    };
+    let k = instructions::kind_coded(coded, first_word(words))?;
     if has_argument(k) {
         return with_argument(k, &words[4..]);
     }
-    Head::Instruction(k, 0)
+    Some((k, 0))
 }
 
 // The words after an instruction of kind k.
@@ -111,33 +98,34 @@ fn call_listed(listed: usize, argument: i32, k: usize) -> bool
 }
 
 // The index of the earliest word at fault, offsets aside.
-pub fn word_fault(listed: usize, words: &[u8]) -> Place
+pub fn word_fault(listed: usize, words: &[u8]) -> Option<usize>
     requires { listed ≤ 32 }
     ensures { result ≡ word_fault listed (words_of words.now) }
 {
     if words.len() == 0 {
-        return Place::At(0);
+        return Some(0);
     }
     let coded = instructions::coded_kinds();
     let mut rest = words;
     let mut index: usize = 0;
     let mut count: usize = 0;
+    // A while: an instruction takes one word or two, and which is known only once it is read; one that cannot be read is the fault.
     while 0 < rest.len() {
-        let Head::Instruction(k, argument) = read_head(&coded, rest) else {
-            return Place::At(index);
+        let Some((k, argument)) = read_head(&coded, rest) else {
+            return Some(index);
         };
         if 1024 <= count {
-            return Place::At(index);
+            return Some(index);
         }
         if !call_listed(listed, argument, k) {
-            return Place::At(index + 1);
+            return Some(index + 1);
         }
         let next = after(k, rest);
         rest = next;
         index += size_of(k);
         count += 1;
     }
-    Place::Missing
+    None
 }
 
 // For each index of a word the number of the instruction whose opcode stands there; 1,024 where none does.
@@ -150,13 +138,9 @@ pub fn numbers_of(words: &[u8]) -> [u16; 2048]
     let mut rest = words;
     let mut index: usize = 0;
     let mut count: u16 = 0;
-    while 0 < rest.len() {
-        let Head::Instruction(k, _) = read_head(&coded, rest) else {
-            return numbers;
-        };
+    while let Some((k, _)) = read_head(&coded, rest) {
         numbers[index] = count;
-        let next = after(k, rest);
-        rest = next;
+        rest = after(k, rest);
         index += size_of(k);
         count += 1;
     }
@@ -178,30 +162,30 @@ pub fn landing(index: usize, argument: i32) -> i64
 }
 
 // The number of the instruction whose opcode stands at an index, if one does.
-pub fn number_at(numbers: &[u16], index: i64) -> Place
+pub fn number_at(numbers: &[u16], index: i64) -> Option<usize>
     ensures { result ≡ number_in numbers.now index }
 {
     if index < 0 {
-        return Place::Missing;
+        return None;
     }
     let n = index as usize;
     if numbers.len() <= n {
-        return Place::Missing;
+        return None;
     }
     let number = numbers[n];
     if number < 1024 {
-        return Place::At(number as usize);
+        return Some(number as usize);
     }
-    Place::Missing
+    None
 }
 
 // Whether there is one.
-fn is_found(place: Place) -> bool
+fn is_found(place: Option<usize>) -> bool
     ensures { result ≡ is_found place }
 {
     match place {
-        Place::Missing => false,
-        Place::At(_) => true,
+        None => false,
+        Some(_) => true,
     }
 }
 
@@ -219,35 +203,31 @@ fn lands(numbers: &[u16], k: usize, index: usize, argument: i32) -> bool
 }
 
 // The index of the earliest offset at fault.
-pub fn offset_fault(words: &[u8], numbers: &[u16]) -> Place
+pub fn offset_fault(words: &[u8], numbers: &[u16]) -> Option<usize>
     requires { Readable (words_of words.now) × Numbered (items (decoded (words_of words.now))) numbers.now }
     ensures { result ≡ offset_fault (items (decoded (words_of words.now))) (items (decoded (words_of words.now))) }
 {
     let coded = instructions::coded_kinds();
     let mut rest = words;
     let mut index: usize = 0;
-    while 0 < rest.len() {
-        let Head::Instruction(k, argument) = read_head(&coded, rest) else {
-            return Place::Missing;
-        };
+    while let Some((k, argument)) = read_head(&coded, rest) {
         if !lands(numbers, k, index, argument) {
-            return Place::At(index + 1);
+            return Some(index + 1);
         }
-        let next = after(k, rest);
-        rest = next;
+        rest = after(k, rest);
         index += size_of(k);
     }
-    Place::Missing
+    None
 }
 
 // The index of the word that an import refuses, if there is one: "Offsets are looked at only when none of the others is found."
-pub fn code_fault(listed: usize, words: &[u8]) -> Place
+pub fn code_fault(listed: usize, words: &[u8]) -> Option<usize>
     requires { listed ≤ 32 }
     ensures { result ≡ code_fault listed (words_of words.now) }
 {
     match word_fault(listed, words) {
-        Place::At(i) => Place::At(i),
-        Place::Missing => {
+        Some(i) => Some(i),
+        None => {
             let numbers = numbers_of(words);
             offset_fault(words, &numbers)
         }

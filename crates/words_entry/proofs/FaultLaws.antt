@@ -1,4 +1,5 @@
 -- Laws of the words at fault: the passes of an import find the earliest. Assumes nothing.
+use Rattle.std.specs.Prelude.{None, Option, Some}
 use mathlib.Core.Path.{◌≡◌, refl, sym, ap, subst, ◌∙◌}
 use mathlib.Core.Logic.{◌⊎◌, inl, inr}
 use mathlib.Core.Bool.{Bool, true, false, cond}
@@ -9,8 +10,6 @@ use native.Mathlib.Nat.{le_antisymm}
 use lib.Dec.{eqb, ltb}
 use lib.IntN.{ℤ, pos, negsuc}
 use borrow.Author.Tests.{ltb-true, ltb-false, eqb-true, eqb-false}
-use Rattle.text.specs.declared.Place.{Place}
-use Rattle.text.specs.declared.Place.TheVariants.{At as at, Missing as missing}
 use Rattle.cells.specs.Try.{done}
 use Rattle.machine.specs.Lists.{nth}
 use Rattle.machine.proofs.FetchLaws.{stuck-not}
@@ -26,22 +25,22 @@ use Rattle.words_entry.specs.Faults.{AtFault, WrongOffset, Earliest, Decides}
 -- ---- the earliest of what a pass may find
 
 -- what a pass says: at p, which is the earliest and not before lo; or that there is none
-abbrev Finds : ℕ → (ℕ → Type 0) → Place → Type 0
-Finds lo P missing = (j : ℕ) → P j → ⊥
-Finds lo P (at p) = Earliest P p × (lo ≤ p)
+abbrev Finds : ℕ → (ℕ → Type 0) → Option ℕ → Type 0
+Finds lo P None = (j : ℕ) → P j → ⊥
+Finds lo P (Some p) = Earliest P p × (lo ≤ p)
 
 -- of another description of the same
-finds-same : (lo : ℕ) {P Q : ℕ → Type 0} → ((i : ℕ) → P i → Q i) → ((i : ℕ) → Q i → P i) → (p : Place) → Finds lo P p → Finds lo Q p
-finds-same lo to from missing h = λ j q. h j (from j q)
-finds-same lo to from (at p) h = (record { there = to p h.0.there; before = λ j q. h.0.before j (from j q) }, h.1)
+finds-same : (lo : ℕ) {P Q : ℕ → Type 0} → ((i : ℕ) → P i → Q i) → ((i : ℕ) → Q i → P i) → (p : Option ℕ) → Finds lo P p → Finds lo Q p
+finds-same lo to from None h = λ j q. h j (from j q)
+finds-same lo to from (Some p) h = (record { there = to p h.0.there; before = λ j q. h.0.before j (from j q) }, h.1)
 
 -- an earlier start
-finds-lower : (P : ℕ → Type 0) (lo hi : ℕ) → lo ≤ hi → (p : Place) → Finds hi P p → Finds lo P p
-finds-lower P lo hi l missing h = h
-finds-lower P lo hi l (at p) h = (h.0, omega (arith, h.1))
+finds-lower : (P : ℕ → Type 0) (lo hi : ℕ) → lo ≤ hi → (p : Option ℕ) → Finds hi P p → Finds lo P p
+finds-lower P lo hi l None h = h
+finds-lower P lo hi l (Some p) h = (h.0, omega (arith, h.1))
 
 -- what is found is what is the earliest
-found-is : {lo : ℕ} {P : ℕ → Type 0} {p i : ℕ} → Finds lo P (at p) → Earliest P i → p ≡ i
+found-is : {lo : ℕ} {P : ℕ → Type 0} {p i : ℕ} → Finds lo P (Some p) → Earliest P i → p ≡ i
 found-is {lo} {P} {p} {i} h e = le_antisymm (h.0.before i e.there) (e.before p h.0.there)
 
 -- ---- the entries of words stand in rising order
@@ -69,9 +68,9 @@ entries-rise lo opcode i (whole w ∷ ws) h = go (kind_coded w) (λ k s. entries
         let s : suc i ≡ i + size_of k = omega (arith, size-one k e) in
         next {x = item_of i k (pos 0)} h (subst (λ m. Rising m (decoded_words opcode (suc i) ws)) s g)
 
-    go : (p : Place) → ((k : ℕ) → size_of k ≡ 2 → Rising lo (decoded_words (argument i k) (suc i) ws)) → Rising (suc i) (decoded_words opcode (suc i) ws) → Rising lo (coded i (λ d. decoded_words d (suc i) ws) p)
-    go missing f g = unread h
-    go (at k) f g = kind k (has_argument (kind_at k).argument) refl (f k) g
+    go : (p : Option ℕ) → ((k : ℕ) → size_of k ≡ 2 → Rising lo (decoded_words (argument i k) (suc i) ws)) → Rising (suc i) (decoded_words opcode (suc i) ws) → Rising lo (coded i (λ d. decoded_words d (suc i) ws) p)
+    go None f g = unread h
+    go (Some k) f g = kind k (has_argument (kind_at k).argument) refl (f k) g
 entries-rise lo (argument j k) i [] h = unread h.0
 entries-rise lo (argument j k) i (cut ∷ ws) h = unread h.0
 entries-rise lo (argument j k) i (whole w ∷ ws) h =
@@ -179,7 +178,7 @@ fault-found n c lo (item x ∷ es) (next l r) = first (fault-found n (suc c) (x.
         go (inr g) = g
 
     second : Finds (x.index + size_of x.kind) (FaultIn n (suc c) es) (fault_from n (suc c) es) → c < 1024 → (b : Bool) → call_listed n x.argument (kind_at x.kind).argument ≡ b →
-        Finds lo (FaultIn n c (item x ∷ es)) (cond b (fault_from n (suc c) es) (at (suc x.index)))
+        Finds lo (FaultIn n c (item x ∷ es)) (cond b (fault_from n (suc c) es) (Some (suc x.index)))
     second ih h true e =
         finds-lower (FaultIn n c (item x ∷ es)) lo (x.index + size_of x.kind) (omega arith) (fault_from n (suc c) es)
         (finds-same (x.index + size_of x.kind) (λ i f. fault-after f) (sound e h) (fault_from n (suc c) es) ih)
@@ -193,7 +192,7 @@ fault-found n c lo (item x ∷ es) (next l r) = first (fault-found n (suc c) (x.
         go s j (inl (inr g)) = absurd (omega (arith, g.0))
         go s j (inr g) = omega (arith, after j g)
 
-    first : Finds (x.index + size_of x.kind) (FaultIn n (suc c) es) (fault_from n (suc c) es) → (b : Bool) → ltb c 1024 ≡ b → Finds lo (FaultIn n c (item x ∷ es)) (cond b (cond (call_listed n x.argument (kind_at x.kind).argument) (fault_from n (suc c) es) (at (suc x.index))) (at x.index))
+    first : Finds (x.index + size_of x.kind) (FaultIn n (suc c) es) (fault_from n (suc c) es) → (b : Bool) → ltb c 1024 ≡ b → Finds lo (FaultIn n c (item x ∷ es)) (cond b (cond (call_listed n x.argument (kind_at x.kind).argument) (fault_from n (suc c) es) (Some (suc x.index))) (Some x.index))
     first ih true e = second ih (ltb-true c 1024 e) (call_listed n x.argument (kind_at x.kind).argument) refl
     first ih false e = (record { there = fault-here (inr (ltb-false c 1024 e, refl)); before = λ j f. go j (fault-or f) }, l)
       where
@@ -222,23 +221,23 @@ among-item m (unreadable i ∷ es) e = let r = among-item m es e in (suc r.0, r.
 
 -- where an index stands among those of the instructions
 module _ (n : ℕ) where
-  place-some : (c : ℕ) (xs : List Item) (k : ℕ) → place_from c n (map (λ x. x.index) xs) ≡ at k → (m : ℕ) × (y : Item) × (nth m xs ≡ done y) × (y.index ≡ n)
+  place-some : (c : ℕ) (xs : List Item) (k : ℕ) → place_from c n (map (λ x. x.index) xs) ≡ Some k → (m : ℕ) × (y : Item) × (nth m xs ≡ done y) × (y.index ≡ n)
   unfolding place_from nth
   place-some c [] k e = let z : ◌≡◌ {A = ℕ} 0 1 = cc in absurd (omega arith)
   place-some c (x ∷ xs) k e = go (eqb n x.index) refl e (place-some (suc c) xs k)
     where
-      go : (b : Bool) → eqb n x.index ≡ b → cond b (at c) (place_from (suc c) n (map (λ x. x.index) xs)) ≡ at k →
-          (place_from (suc c) n (map (λ x. x.index) xs) ≡ at k → (m : ℕ) × (y : Item) × (nth m xs ≡ done y) × (y.index ≡ n)) → (m : ℕ) × (y : Item) × (nth m (x ∷ xs) ≡ done y) × (y.index ≡ n)
+      go : (b : Bool) → eqb n x.index ≡ b → cond b (Some c) (place_from (suc c) n (map (λ x. x.index) xs)) ≡ Some k →
+          (place_from (suc c) n (map (λ x. x.index) xs) ≡ Some k → (m : ℕ) × (y : Item) × (nth m xs ≡ done y) × (y.index ≡ n)) → (m : ℕ) × (y : Item) × (nth m (x ∷ xs) ≡ done y) × (y.index ≡ n)
       go true q f ih = (0, x, refl, sym (eqb-true n x.index q))
       go false q f ih = let r = ih f in (suc r.0, r.1, r.2, r.3)
 
-  place_none : (c : ℕ) (xs : List Item) → place_from c n (map (λ x. x.index) xs) ≡ missing → (m : ℕ) (y : Item) → nth m xs ≡ done y → y.index ≡ n → ⊥
+  place_none : (c : ℕ) (xs : List Item) → place_from c n (map (λ x. x.index) xs) ≡ None → (m : ℕ) (y : Item) → nth m xs ≡ done y → y.index ≡ n → ⊥
   unfolding place_from nth
   place_none c [] e m y t q = stuck-not y t
   place_none c (x ∷ xs) e m y t q = go (eqb n x.index) refl e (place_none (suc c) xs) m t
     where
-      go : (b : Bool) → eqb n x.index ≡ b → cond b (at c) (place_from (suc c) n (map (λ x. x.index) xs)) ≡ missing →
-          (place_from (suc c) n (map (λ x. x.index) xs) ≡ missing → (m : ℕ) (y : Item) → nth m xs ≡ done y → y.index ≡ n → ⊥) → (m : ℕ) → nth m (x ∷ xs) ≡ done y → ⊥
+      go : (b : Bool) → eqb n x.index ≡ b → cond b (Some c) (place_from (suc c) n (map (λ x. x.index) xs)) ≡ None →
+          (place_from (suc c) n (map (λ x. x.index) xs) ≡ None → (m : ℕ) (y : Item) → nth m xs ≡ done y → y.index ≡ n → ⊥) → (m : ℕ) → nth m (x ∷ xs) ≡ done y → ⊥
       go true p f ih m t = let z : ◌≡◌ {A = ℕ} 0 1 = cc in omega arith
       go false p f ih zero t = let h : x ≡ y = cc in eqb-false n x.index p (sym q ∙ ap (λ (v : Item). v.index) (sym h))
       go false p f ih (suc m) t = ih f m y t q
@@ -252,18 +251,18 @@ astray-at : (xs : List Item) (z : ℤ) → is_found (number_at xs z) ≡ false �
 unfolding number_at
 astray-at xs (pos n) e k y t q = go (place_from 0 n (map (λ x. x.index) xs)) refl e
   where
-    go : (p : Place) → place_from 0 n (map (λ x. x.index) xs) ≡ p → is_found p ≡ false → ⊥
-    go missing f g = place_none n 0 xs f k y t (cc)
-    go (at i) f g = let z : ◌≡◌ {A = ℕ} 0 1 = cc in omega arith
+    go : (p : Option ℕ) → place_from 0 n (map (λ x. x.index) xs) ≡ p → is_found p ≡ false → ⊥
+    go None f g = place_none n 0 xs f k y t (cc)
+    go (Some i) f g = let z : ◌≡◌ {A = ℕ} 0 1 = cc in omega arith
 astray-at xs (negsuc n) e k y t q = let z : ◌≡◌ {A = ℕ} 0 1 = cc in omega arith
 
 at-astray : (xs : List Item) (z : ℤ) → is_found (number_at xs z) ≡ true → ((k : ℕ) (y : Item) → nth k xs ≡ done y → pos y.index ≡ z → ⊥) → ⊥
 unfolding number_at
 at-astray xs (pos n) e f = go (place_from 0 n (map (λ x. x.index) xs)) refl e
   where
-    go : (p : Place) → place_from 0 n (map (λ x. x.index) xs) ≡ p → is_found p ≡ true → ⊥
-    go missing g h = let z : ◌≡◌ {A = ℕ} 0 1 = cc in omega arith
-    go (at i) g h = let r = place-some n 0 xs i g in f r.0 r.1 r.2 (ap pos r.3)
+    go : (p : Option ℕ) → place_from 0 n (map (λ x. x.index) xs) ≡ p → is_found p ≡ true → ⊥
+    go None g h = let z : ◌≡◌ {A = ℕ} 0 1 = cc in omega arith
+    go (Some i) g h = let r = place-some n 0 xs i g in f r.0 r.1 r.2 (ap pos r.3)
 at-astray xs (negsuc n) e f = let z : ◌≡◌ {A = ℕ} 0 1 = cc in omega arith
 
 lands-not : (xs : List Item) (x : Item) (a : Argument) → lands xs x a ≡ false → (a ≡ Target) × ((k : ℕ) (y : Item) → nth k xs ≡ done y → pos y.index ≡ landing x → ⊥)
@@ -338,7 +337,7 @@ offset-found xs lo (item x ∷ es) (next l r) = go (offset-found xs (x.index + s
         pass (inr g) = g
 
     go : Finds (x.index + size_of x.kind) (AstrayIn xs (items es)) (offset_fault xs (items es)) → (b : Bool) → lands xs x (kind_at x.kind).argument ≡ b →
-        Finds lo (AstrayIn xs (x ∷ items es)) (cond b (offset_fault xs (items es)) (at (suc x.index)))
+        Finds lo (AstrayIn xs (x ∷ items es)) (cond b (offset_fault xs (items es)) (Some (suc x.index)))
     go ih true e =
         finds-lower (AstrayIn xs (x ∷ items es)) lo (x.index + size_of x.kind) (omega arith) (offset_fault xs (items es))
         (finds-same (x.index + size_of x.kind) (λ i a. astray-after a) (sound e) (offset_fault xs (items es)) ih)
@@ -403,55 +402,55 @@ module _ (ws : List Word) where
 
 -- the word that an import refuses is the one that decides, and there is none where nothing is at fault
 module _ (n : ℕ) (ws : List Word) where
-  abbrev offsets : Place
+  abbrev offsets : Option ℕ
   offsets = offset_fault (items (decoded ws)) (items (decoded ws))
 
-  pub fault-decides : (i : ℕ) → code_fault n ws ≡ at i → Decides n ws i
+  pub fault-decides : (i : ℕ) → code_fault n ws ≡ Some i → Decides n ws i
   unfolding code_fault or_offsets
   fault-decides i = go (word_fault n ws) (words-found n ws)
     where
-      later : (q : Place) → Finds 0 (WrongOffset ws) q → q ≡ at i → Earliest (WrongOffset ws) i
-      later missing f e = let z : ◌≡◌ {A = ℕ} 0 1 = cc in absurd (omega arith)
-      later (at j) f e = let h : j ≡ i = cc in subst (Earliest (WrongOffset ws)) h f.0
+      later : (q : Option ℕ) → Finds 0 (WrongOffset ws) q → q ≡ Some i → Earliest (WrongOffset ws) i
+      later None f e = let z : ◌≡◌ {A = ℕ} 0 1 = cc in absurd (omega arith)
+      later (Some j) f e = let h : j ≡ i = cc in subst (Earliest (WrongOffset ws)) h f.0
 
-      go : (p : Place) → Finds 0 (AtFault n ws) p → or_offsets p (items (decoded ws)) ≡ at i → Decides n ws i
-      go (at j) f e = let h : j ≡ i = cc in inl (subst (Earliest (AtFault n ws)) h f.0)
-      go missing f e = inr (f, later offsets (offsets-found ws) e)
+      go : (p : Option ℕ) → Finds 0 (AtFault n ws) p → or_offsets p (items (decoded ws)) ≡ Some i → Decides n ws i
+      go (Some j) f e = let h : j ≡ i = cc in inl (subst (Earliest (AtFault n ws)) h f.0)
+      go None f e = inr (f, later offsets (offsets-found ws) e)
 
-  pub decides-fault : (i : ℕ) → Decides n ws i → code_fault n ws ≡ at i
+  pub decides-fault : (i : ℕ) → Decides n ws i → code_fault n ws ≡ Some i
   unfolding code_fault or_offsets
   decides-fault i = go (word_fault n ws) (words-found n ws)
     where
-      later : (q : Place) → Finds 0 (WrongOffset ws) q → Earliest (WrongOffset ws) i → q ≡ at i
-      later missing f e = absurd (f i e.there)
-      later (at j) f e = ap at (found-is f e)
+      later : (q : Option ℕ) → Finds 0 (WrongOffset ws) q → Earliest (WrongOffset ws) i → q ≡ Some i
+      later None f e = absurd (f i e.there)
+      later (Some j) f e = ap Some (found-is f e)
 
-      go : (p : Place) → Finds 0 (AtFault n ws) p → Decides n ws i → or_offsets p (items (decoded ws)) ≡ at i
-      go (at j) f (inl e) = ap at (found-is f e)
-      go (at j) f (inr e) = absurd (e.0 j f.0.there)
-      go missing f (inl e) = absurd (f i e.there)
-      go missing f (inr e) = later offsets (offsets-found ws) e.1
+      go : (p : Option ℕ) → Finds 0 (AtFault n ws) p → Decides n ws i → or_offsets p (items (decoded ws)) ≡ Some i
+      go (Some j) f (inl e) = ap Some (found-is f e)
+      go (Some j) f (inr e) = absurd (e.0 j f.0.there)
+      go None f (inl e) = absurd (f i e.there)
+      go None f (inr e) = later offsets (offsets-found ws) e.1
 
-  pub fault-nowhere : code_fault n ws ≡ missing → ((j : ℕ) → AtFault n ws j → ⊥) × ((j : ℕ) → WrongOffset ws j → ⊥)
+  pub fault-nowhere : code_fault n ws ≡ None → ((j : ℕ) → AtFault n ws j → ⊥) × ((j : ℕ) → WrongOffset ws j → ⊥)
   unfolding code_fault or_offsets
   fault-nowhere = go (word_fault n ws) (words-found n ws)
     where
-      later : (q : Place) → Finds 0 (WrongOffset ws) q → q ≡ missing → (j : ℕ) → WrongOffset ws j → ⊥
-      later missing f e = f
-      later (at j) f e = let z : ◌≡◌ {A = ℕ} 0 1 = cc in absurd (omega arith)
+      later : (q : Option ℕ) → Finds 0 (WrongOffset ws) q → q ≡ None → (j : ℕ) → WrongOffset ws j → ⊥
+      later None f e = f
+      later (Some j) f e = let z : ◌≡◌ {A = ℕ} 0 1 = cc in absurd (omega arith)
 
-      go : (p : Place) → Finds 0 (AtFault n ws) p → or_offsets p (items (decoded ws)) ≡ missing → ((j : ℕ) → AtFault n ws j → ⊥) × ((j : ℕ) → WrongOffset ws j → ⊥)
-      go (at j) f e = let z : ◌≡◌ {A = ℕ} 0 1 = cc in absurd (omega arith)
-      go missing f e = (f, later offsets (offsets-found ws) e)
+      go : (p : Option ℕ) → Finds 0 (AtFault n ws) p → or_offsets p (items (decoded ws)) ≡ None → ((j : ℕ) → AtFault n ws j → ⊥) × ((j : ℕ) → WrongOffset ws j → ⊥)
+      go (Some j) f e = let z : ◌≡◌ {A = ℕ} 0 1 = cc in absurd (omega arith)
+      go None f e = (f, later offsets (offsets-found ws) e)
 
-  pub nowhere-fault : ((j : ℕ) → AtFault n ws j → ⊥) → ((j : ℕ) → WrongOffset ws j → ⊥) → code_fault n ws ≡ missing
+  pub nowhere-fault : ((j : ℕ) → AtFault n ws j → ⊥) → ((j : ℕ) → WrongOffset ws j → ⊥) → code_fault n ws ≡ None
   unfolding code_fault or_offsets
   nowhere-fault a o = go (word_fault n ws) (words-found n ws)
     where
-      later : (q : Place) → Finds 0 (WrongOffset ws) q → q ≡ missing
-      later missing f = refl
-      later (at j) f = absurd (o j f.0.there)
+      later : (q : Option ℕ) → Finds 0 (WrongOffset ws) q → q ≡ None
+      later None f = refl
+      later (Some j) f = absurd (o j f.0.there)
 
-      go : (p : Place) → Finds 0 (AtFault n ws) p → or_offsets p (items (decoded ws)) ≡ missing
-      go (at j) f = absurd (a j f.0.there)
-      go missing f = later offsets (offsets-found ws)
+      go : (p : Option ℕ) → Finds 0 (AtFault n ws) p → or_offsets p (items (decoded ws)) ≡ None
+      go (Some j) f = absurd (a j f.0.there)
+      go None f = later offsets (offsets-found ws)

@@ -1,4 +1,5 @@
 -- Laws of the answers of an import and of an export: in each case of the code, how large they are, and where they refuse. Assumes nothing.
+use Rattle.std.specs.Prelude.{Err, None, Ok, Result, ⊤}
 use mathlib.Core.Path.{◌≡◌, refl, sym, ap, ◌∙◌}
 use mathlib.Core.List.{List}
 use Prim.Native.Nat.{ℕ, ◌<◌, ◌≤◌}
@@ -7,10 +8,7 @@ use lib.ListN.{length, length-map}
 use Rattle.refusals.specs.declared.Refusal.{Refusal}
 use Rattle.refusals.specs.declared.Refusal.TheVariants.{ReportMemory}
 use Rattle.refusals.specs.Refusals.{place}
-use Rattle.refusals.specs.declared.Acceptance.{Acceptance}
-use Rattle.refusals.specs.declared.Acceptance.TheVariants.{Accepted, Refused}
 use Rattle.text.specs.Text.{Line, lines}
-use Rattle.file_format.specs.declared.RefusedLine.TheVariants.{Nowhere as nowhere}
 use Rattle.file_format.specs.declared.Row.TheVariants.{Layout as Layout-row}
 use Rattle.file_format.specs.Rows.{refused_line}
 use Rattle.file_format.specs.Routine.{Routine, read_bound}
@@ -34,11 +32,11 @@ module _ (words primitives : List ℕ) (n : ℕ) where
   unfolding import_answer
   import-short = lent-short conversion_limit n _
 
-  pub import-refused : 32768 ≤ n → (x : Refusal) → import_verdict words primitives ≡ Refused x → import_answer words primitives n ≡ refused x
+  pub import-refused : 32768 ≤ n → (x : Refusal) → import_verdict words primitives ≡ Err x → import_answer words primitives n ≡ refused x
   unfolding import_answer of_acceptance
   import-refused h x e = lent-enough conversion_limit n _ h ∙ ap (of_acceptance (import_text words primitives)) e
 
-  pub import-made : 32768 ≤ n → import_verdict words primitives ≡ Accepted → import_answer words primitives n ≡ reported (import_text words primitives)
+  pub import-made : 32768 ≤ n → import_verdict words primitives ≡ Ok tt → import_answer words primitives n ≡ reported (import_text words primitives)
   unfolding import_answer of_acceptance
   import-made h e = lent-enough conversion_limit n _ h ∙ ap (of_acceptance (import_text words primitives)) e
 
@@ -49,23 +47,23 @@ module _ (words primitives : List ℕ) (n : ℕ) where
       let l = lent-reported conversion_limit n (of_acceptance (import_text words primitives) (import_verdict words primitives)) bs e in
       go (import_verdict words primitives) refl l.0 l.1
     where
-      go : (v : Acceptance) → import_verdict words primitives ≡ v → 32768 ≤ n → of_acceptance (import_text words primitives) v ≡ reported bs → (1 ≤ length bs) × (length bs ≤ 32768) × (32768 ≤ n)
-      go Accepted q h e = let f : import_text words primitives ≡ bs = cc in rw (← f) (imports.import-some words primitives, imports.import-fits words primitives q, h)
-      go (Refused r) q h e = never r bs e
+      go : (v : Result ⊤ Refusal) → import_verdict words primitives ≡ v → 32768 ≤ n → of_acceptance (import_text words primitives) v ≡ reported bs → (1 ≤ length bs) × (length bs ≤ 32768) × (32768 ≤ n)
+      go (Ok tt) q h e = let f : import_text words primitives ≡ bs = cc in rw (← f) (imports.import-some words primitives, imports.import-fits words primitives q, h)
+      go (Err r) q h e = never r bs e
 
   -- a refusal
   pub import-place : (r : Refusal) → import_answer words primitives n ≡ refused r → place r ≤ 2048
   unfolding import_answer of_acceptance
   import-place r = lent-place conversion_limit n (of_acceptance (import_text words primitives) (import_verdict words primitives)) 2048 r (go (import_verdict words primitives) refl)
     where
-      go : (v : Acceptance) → import_verdict words primitives ≡ v → of_acceptance (import_text words primitives) v ≡ refused r → place r ≤ 2048
-      go Accepted q e = never r (import_text words primitives) (sym e)
-      go (Refused x) q e = let f : x ≡ r = cc in imports.import-place words primitives r (q ∙ ap Refused f)
+      go : (v : Result ⊤ Refusal) → import_verdict words primitives ≡ v → of_acceptance (import_text words primitives) v ≡ refused r → place r ≤ 2048
+      go (Ok tt) q e = never r (import_text words primitives) (sym e)
+      go (Err x) q e = let f : x ≡ r = cc in imports.import-place words primitives r (q ∙ ap Err f)
 
 -- ---- an export
 
 -- a file has 1 to 1,024 code lines
-export-length : (ls : List Line) → refused_line Layout-row ls ≡ nowhere → (4 ≤ length (export_bytes ls)) × (length (export_bytes ls) ≤ 8192)
+export-length : (ls : List Line) → refused_line Layout-row ls ≡ None → (4 ≤ length (export_bytes ls)) × (length (export_bytes ls) ≤ 8192)
 unfolding export_bytes
 export-length ls e = export-fits _ (simp length-map (code-some ls e)) (simp length-map (code-few ls e))
 

@@ -1,11 +1,11 @@
 -- Laws of the code that words hold: it is that of a file which has the lines made of them. Assumes nothing.
+use Rattle.std.specs.Prelude.{Ok}
 use mathlib.Core.Path.{◌≡◌, refl, sym, ap, ap₂, ◌∙◌}
 use mathlib.Core.List.{List, [], ◌∷◌, ◌++◌, append_assoc, map}
 use Prim.Native.Nat.{ℕ, ◌<◌}
 use lib.IntN.{ℤ, pos, +ℤ_idr}
 use lib.ListN.{get_or}
 use native.Mathlib.Omega.{arith}
-use Rattle.refusals.specs.declared.Acceptance.TheVariants.{Accepted as accepted}
 use Rattle.text.specs.Text.{bytes, line_words, parted_by, Line, lines, find}
 use Rattle.text_decimals.specs.Decimal.{decimal}
 use Rattle.text.proofs.TextLaws.{Every}
@@ -87,7 +87,7 @@ module _ (ks : PriceList) (es : List (List ℕ)) (pl : PriceList) where
   said-meant xs (y ∷ ys) = ap₂ ◌∷◌ (ap (priced_as ks es pl y.kind) (value-is xs y (kind_at y.kind).argument)) (said-meant xs ys)
 
 -- the code of a file that has the lines made of words
-pub code-meant : (bs line text : List ℕ) → Every (λ b. b < 256) bs → import_verdict bs line ≡ accepted → Passes (lines text) →
+pub code-meant : (bs line text : List ℕ) → Every (λ b. b < 256) bs → import_verdict bs line ≡ Ok tt → Passes (lines text) →
     listed (names primitives) (lines text) ≡ primitives_of line → code_section (lines text) ≡ import_text bs line → code_in (lines text) ≡ code_meant (lines text) bs
 unfolding code_in code_meant price_list
 code-meant bs line text small ok p same made =

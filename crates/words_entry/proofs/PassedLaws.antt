@@ -1,5 +1,6 @@
 -- Laws of the rows of the refusal table on the file with the lines that an import makes of a file's words: a row that refuses no line of the
 -- one refuses none of the other, and it has no more bytes. Assumes nothing.
+use Rattle.std.specs.Prelude.{None, Some}
 use mathlib.Core.Path.{◌≡◌, refl, sym, ap, ap₂, subst, ◌∙◌}
 use mathlib.Core.Bool.{Bool, true, false, cond, not, ◌&&◌}
 use mathlib.Core.List.{List, [], ◌∷◌, ◌++◌, append_assoc}
@@ -10,7 +11,6 @@ use lib.IntN.{pos, ◌+ℤ◌}
 use lib.ListN.{length, get_or, take, drop, length-append}
 use borrow.Author.Tests.{eq-eqb, le-leb, lt-ltb, leb-true, ltb-true, not-true}
 use Rattle.text.specs.Text.{bytes, is_empty, equals, parted_by, line_words, Line, lines, place_among, among, all, lines_text}
-use Rattle.text_decimals.specs.declared.Numeral.TheVariants.{Number as number}
 use Rattle.text_decimals.specs.Decimal.{numeral, decimal}
 use Rattle.text.proofs.TextLaws.{Every, none, more, every_map, all-every, and_left, and_right, equals-path}
 use Rattle.text.proofs.LineLaws.{ended_line}
@@ -24,7 +24,6 @@ use Rattle.file_format.specs.declared.Role.{Role}
 use Rattle.file_format.specs.declared.Role.TheVariants.{Names as names, Code as code, Answer as answer}
 use Rattle.file_format.specs.declared.Row.{Row}
 use Rattle.file_format.specs.declared.Row.TheVariants.{Layout as Layout-row, Range as range-row, Name as name-row, Price as price-row, Target as target_row, Forward as forward-row, Known as known-row}
-use Rattle.file_format.specs.declared.RefusedLine.TheVariants.{Nowhere as nowhere}
 use Rattle.file_format.specs.Layout.{layout, is_answer, body, up_to_answer, lines_of_code, answer_roles, code_roles, body_roles, roles, list, is_role, text_at, listed}
 use Rattle.file_format.specs.Rows.{is_numeral, value_of, value, at, op, arg, argument_of, on_argument, argument_laid_out, argument_in_range, argument_named, argument_reaches, argument_forward, at_range, on_cells, on_code, names_laid_out, code_laid_out, is_laid_out, code_in_range, in_range, well_named, first_at, code_named, named, priced, reaches, code_is_forward, forward, all_known, test, refused_line, Passes}
 use Rattle.file_format.specs.Routine.{first_address}
@@ -55,7 +54,7 @@ decimal-filled : (n : ℕ) → not (is_empty (decimal n)) ≡ true
 unfolding numeral
 decimal-filled n = go (decimal n) (decimal-read n)
   where
-    go : (w : List ℕ) → numeral w ≡ number (pos n) → not (is_empty w) ≡ true
+    go : (w : List ℕ) → numeral w ≡ Some (pos n) → not (is_empty w) ≡ true
     go [] e = let z : ◌≡◌ {A = ℕ} 0 1 = cc in absurd (omega arith)
     go (d ∷ ds) e = refl
 
@@ -338,7 +337,7 @@ module _ (text : List ℕ) (p : Passes (lines text)) where
   }
 
   -- a row that refuses no line of the file refuses none of the other
-  pub row_kept : (row : Row) → refused_line row ls ≡ nowhere → refused_line row ms ≡ nowhere
+  pub row_kept : (row : Row) → refused_line row ls ≡ None → refused_line row ms ≡ None
   unfolding roles all
   row_kept row e =
       let made = lowered.made text p in

@@ -1,4 +1,6 @@
 -- The statements of `specs/Promises`, each proved by its name. Assumes nothing.
+use Rattle.refusals.specs.declared.Refusal.{Refusal}
+use Rattle.std.specs.Prelude.{Err, None, Ok, Option, Result, Some, ⊤}
 use Prim.Native.Nat.{ℕ, ◌≤◌}
 use mathlib.Core.Path.{◌≡◌, refl, sym, ap, subst, ◌∙◌}
 use mathlib.Core.Bool.{Bool, true, false, cond}
@@ -9,15 +11,10 @@ use lib.IntN.{pos}
 use lib.ListN.{length}
 use borrow.Author.Tests.{ltb-true, ltb-false, le-ltb}
 use Rattle.refusals.specs.declared.Refusal.TheVariants.{ReportMemory, Layout, BadName, BadWord}
-use Rattle.refusals.specs.declared.Acceptance.{Acceptance}
-use Rattle.refusals.specs.declared.Acceptance.TheVariants.{Accepted, Refused}
 use Rattle.text.specs.Text.{Line, lines, lines_text}
-use Rattle.text.specs.declared.Place.{Place}
-use Rattle.text.specs.declared.Place.TheVariants.{At, Missing}
 use Rattle.text.proofs.TextLaws.{every_map, all-every}
 use Rattle.file_format.specs.declared.Section.TheVariants.{Primitives as primitives}
 use Rattle.file_format.specs.declared.Row.TheVariants.{Known as known-row}
-use Rattle.file_format.specs.declared.RefusedLine.TheVariants.{Nowhere as nowhere}
 use Rattle.file_format.specs.Layout.{body, list}
 use Rattle.file_format.specs.Rows.{well_named, first_at, refused_line, Passes}
 use Rattle.file_format.specs.Routine.{Routine, first_address, code_in, routine_of, routine, or_else, checked, text_limit, limited, read_bound, read_run}
@@ -59,13 +56,13 @@ exported text words n e =
     (r.0, sym (same_bytes (export_bytes (lines text)) words a.gives), r.2)
 
 -- lines that are made are those of words that are accepted
-imported : (words line made : List ℕ) (n : ℕ) → import_answer words line n ≡ reported made → (import_verdict words line ≡ Accepted) × (made ≡ import_text words line)
+imported : (words line made : List ℕ) (n : ℕ) → import_answer words line n ≡ reported made → (import_verdict words line ≡ Ok tt) × (made ≡ import_text words line)
 unfolding import_answer of_acceptance
 imported words line made n e = go (import_verdict words line) refl (lent-reported conversion_limit n (of_acceptance (import_text words line) (import_verdict words line)) made e).1
   where
-    go : (v : Acceptance) → import_verdict words line ≡ v → of_acceptance (import_text words line) v ≡ reported made → (import_verdict words line ≡ Accepted) × (made ≡ import_text words line)
-    go Accepted q f = (q, sym (same_bytes (import_text words line) made f))
-    go (Refused r) q f = never r made f
+    go : (v : Result ⊤ Refusal) → import_verdict words line ≡ v → of_acceptance (import_text words line) v ≡ reported made → (import_verdict words line ≡ Ok tt) × (made ≡ import_text words line)
+    go (Ok tt) q f = (q, sym (same_bytes (import_text words line) made f))
+    go (Err r) q f = never r made f
 
 -- the first address of a file that passes, as it is written
 begins : (text : List ℕ) → Passes (lines text) → BeginsAtZero text → first_at (body (lines text)) ≡ pos 0
@@ -99,37 +96,37 @@ imports-export words line made text out n m small e s l g =
 -- ---- where an import refuses by 12, and where it makes lines
 
 -- a primitives line is never refused by 12
-line_other : (line : List ℕ) (i : ℕ) {A : Type 0} → primitives_verdict line ≡ Refused (BadWord i) → A
+line_other : (line : List ℕ) (i : ℕ) {A : Type 0} → primitives_verdict line ≡ Err (BadWord i) → A
 unfolding primitives_verdict one_line_verdict line_verdict
 line_other line i {A} = go (lines line)
   where
-    one : (a b : Bool) → cond a (cond b Accepted (Refused (BadName 1))) (Refused (Layout 1)) ≡ Refused (BadWord i) → A
+    one : (a b : Bool) → ◌≡◌ {A = Result ⊤ Refusal} (cond a (cond b (Ok tt) (Err (BadName 1))) (Err (Layout 1))) (Err (BadWord i)) → A
     one true true e = let z : ◌≡◌ {A = ℕ} 0 1 = cc in absurd (omega arith)
     one true false e = let z : ◌≡◌ {A = ℕ} 0 1 = cc in absurd (omega arith)
     one false b e = let z : ◌≡◌ {A = ℕ} 0 1 = cc in absurd (omega arith)
 
-    go : (ls : List Line) → one_line_verdict ls ≡ Refused (BadWord i) → A
+    go : (ls : List Line) → one_line_verdict ls ≡ Err (BadWord i) → A
     go [] e = let z : ◌≡◌ {A = ℕ} 0 1 = cc in absurd (omega arith)
     go (l ∷ []) e = one (line_laid_out l.text) (well_named primitives (list l.text)) e
     go (l ∷ m ∷ ls) e = let z : ◌≡◌ {A = ℕ} 0 1 = cc in absurd (omega arith)
 
 module _ (words line : List ℕ) (n : ℕ) where
-  abbrev fault : Place
+  abbrev fault : Option ℕ
   fault = code_fault (length (primitives_of line)) (words_of words)
 
   -- a refusal by 12 is not for the memory, nor for the line
-  refused-word : (i : ℕ) → import_answer words line n ≡ refused (BadWord i) → (conversion_limit ≤ n) × (primitives_verdict line ≡ Accepted) × (fault ≡ At i)
+  refused-word : (i : ℕ) → import_answer words line n ≡ refused (BadWord i) → (conversion_limit ≤ n) × (primitives_verdict line ≡ Ok tt) × (fault ≡ Some i)
   unfolding import_answer of_acceptance import_verdict both fault_verdict
   refused-word i = go (ltb n conversion_limit) refl (primitives_verdict line) refl
     where
-      made : (p : Place) → of_acceptance (import_text words line) (fault_verdict p) ≡ refused (BadWord i) → p ≡ At i
-      made Missing e = never (BadWord i) (import_text words line) (sym e)
-      made (At j) e = ap At (cc)
+      made : (p : Option ℕ) → of_acceptance (import_text words line) (fault_verdict p) ≡ refused (BadWord i) → p ≡ Some i
+      made None e = never (BadWord i) (import_text words line) (sym e)
+      made (Some j) e = ap Some (cc)
 
-      go : (b : Bool) → ltb n conversion_limit ≡ b → (v : Acceptance) → primitives_verdict line ≡ v → cond b (refused ReportMemory) (of_acceptance (import_text words line) (both v (fault_verdict fault))) ≡ refused (BadWord i) → (conversion_limit ≤ n) × (primitives_verdict line ≡ Accepted) × (fault ≡ At i)
+      go : (b : Bool) → ltb n conversion_limit ≡ b → (v : Result ⊤ Refusal) → primitives_verdict line ≡ v → cond b (refused ReportMemory) (of_acceptance (import_text words line) (both v (fault_verdict fault))) ≡ refused (BadWord i) → (conversion_limit ≤ n) × (primitives_verdict line ≡ Ok tt) × (fault ≡ Some i)
       go true h v q e = let z : ◌≡◌ {A = ℕ} 0 1 = cc in absurd (omega arith)
-      go false h Accepted q e = (ltb-false n conversion_limit h, q, made fault e)
-      go false h (Refused r) q e = line_other line i (q ∙ ap Refused (cc))
+      go false h (Ok tt) q e = (ltb-false n conversion_limit h, q, made fault e)
+      go false h (Err r) q e = line_other line i (q ∙ ap Err (cc))
 
 pub import-refused-where : ImportRefusedWhere
 unfolding import_verdict both fault_verdict
@@ -202,7 +199,7 @@ module _ (text words made : List ℕ) (n m : ℕ) (p : Passes (lines text)) (sho
   unfolding read_run limited checked or_else
   low_run x r =
       let q = low-passes in
-      let k : refused_line known-row (lines low) ≡ nowhere = subst (λ ls. refused_line known-row ls ≡ nowhere) (sym (made-lines text words made n m p e g)) (row_kept text p known-row (run-passes text x r).1) in
+      let k : refused_line known-row (lines low) ≡ None = subst (λ ls. refused_line known-row ls ≡ None) (sym (made-lines text words made n m p e g)) (row_kept text p known-row (run-passes text x r).1) in
       rw (le-ltb text_limit (length low) low-short, q.layout, q.range, q.names, q.prices, q.targets, q.forward, k) (ap (λ ls. routine (routine_of ls)) (made-lines text words made n m p e g))
 
 pub same-words : SameWords

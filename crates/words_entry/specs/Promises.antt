@@ -1,9 +1,8 @@
 -- What is promised of an import and an export together, as statements. `proofs/Theorems` proves each by its name. (document 02, §2)
-use Rattle.std.specs.Prelude.{◌≤◌, ◌↔◌, ◌≡◌}
+use Rattle.std.specs.Prelude.{◌≤◌, ◌↔◌, ◌≡◌, Ok}
 use Rattle.refusals.specs.Library.{ℕ, ltb, length, true, List}
 use Rattle.bound_theory.specs.Terms.{BadWord, bound, run}
 use Rattle.answers.specs.Terms.{listed, body, Routine, routine, read_bound, read_run, reported, refused, lines, all, primitives, names}
-use Rattle.refusals.specs.declared.Acceptance.TheVariants.{Accepted as accepted}
 use Rattle.merge_theory.specs.Merge.{merged}
 use Rattle.file_format.specs.Routine.{first_address}
 use Rattle.words.specs.Words.{words_of}
@@ -42,14 +41,14 @@ abbrev pub ImportRefusedWhere : Type 0
 ImportRefusedWhere =
     (words line : List ℕ) (n i : ℕ) →
     (import_answer words line n ≡ refused (BadWord i))
-    ↔ ((conversion_limit ≤ n) × (primitives_verdict line ≡ accepted) × Decides (length (primitives_of line)) (words_of words) i)
+    ↔ ((conversion_limit ≤ n) × (primitives_verdict line ≡ Ok tt) × Decides (length (primitives_of line)) (words_of words) i)
 
 -- and lines are made where, and only where, there is neither a word at fault nor a wrong offset
 abbrev pub ImportedWhere : Type 0
 ImportedWhere =
     (words line : List ℕ) (n : ℕ) →
     ((made : List ℕ) × (import_answer words line n ≡ reported made))
-    ↔ ((conversion_limit ≤ n) × (primitives_verdict line ≡ accepted) × ((j : ℕ) → AtFault (length (primitives_of line)) (words_of words) j → ⊥) × ((j : ℕ) → WrongOffset (words_of words) j → ⊥))
+    ↔ ((conversion_limit ≤ n) × (primitives_verdict line ≡ Ok tt) × ((j : ℕ) → AtFault (length (primitives_of line)) (words_of words) j → ⊥) × ((j : ℕ) → WrongOffset (words_of words) j → ⊥))
 
 -- "An import followed by a bound gives what the written file gives", of any words: a file that passes, with the lines made in their place
 -- and the same primitives, has the code that the words hold

@@ -1,5 +1,6 @@
 -- Laws of an argument word: an offset and how far it goes, the line that a target is the address of, and the word by what the kind takes.
 -- Assumes nothing.
+use Rattle.std.specs.Prelude.{None, Option, Some}
 use Prim.Native.Nat.{ℕ, zero, suc, ◌+◌, ◌-◌, ◌<◌, ◌≤◌}
 use mathlib.Core.Path.{◌≡◌, refl, sym, ap, ap₂, subst, ◌∙◌}
 use mathlib.Core.Bool.{Bool, true, false, cond, false≢true}
@@ -17,8 +18,6 @@ use borrow.Author.Tests.{le-leb, leb-true, ltb-true, le-ltb}
 use Rattle.numbers.specs.declared.Range.{Range}
 use Rattle.numbers.specs.Numbers.{numbers, within}
 use Rattle.text.specs.Text.{place_among, index_of, find}
-use Rattle.text.specs.declared.Place.{Place}
-use Rattle.text.specs.declared.Place.TheVariants.{At as at, Missing as missing}
 use Rattle.text.proofs.TextLaws.{and_left, and_right, place-below}
 use Rattle.instructions.specs.Kinds.{addresses, kind_names, kind_at}
 use Rattle.instructions.specs.declared.Argument.{Argument}
@@ -88,9 +87,9 @@ pub place-few : (w : List ℕ) (ws : List (List ℕ)) → find w ws ≤ length w
 unfolding find
 place-few w ws = go (place_among w ws) refl
   where
-    go : (p : Place) → place_among w ws ≡ p → index_of p ≤ length ws
-    go missing e = omega arith
-    go (at n) e = omega (arith, place-below 0 w ws e)
+    go : (p : Option ℕ) → place_among w ws ≡ p → index_of p ≤ length ws
+    go None e = omega arith
+    go (Some n) e = omega (arith, place-below 0 w ws e)
 
 -- ---- the argument word, by what the kind takes
 

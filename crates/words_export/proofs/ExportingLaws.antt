@@ -12,7 +12,7 @@ use lib.Seq.{drop-cons, take-suc-set, get_or-take, length-take-le}
 use Rattle.text.specs.Text.{Line, no_line, find}
 use Rattle.text_decimals.specs.Memory.{over}
 use Rattle.text.proofs.LineLaws.{line-drop}
-use Rattle.text_decimals.proofs.MemoryLaws.{Wrote, wrote_none, wrote-more, wrote-start}
+use Rattle.text_decimals.proofs.MemoryLaws.{Wrote, wrote-more, wrote-start}
 use Rattle.instructions.specs.Kinds.{kind_names, kind_at}
 use Rattle.numbers.specs.Numbers.{residue}
 use Rattle.file_format.specs.Rows.{op, arg}
@@ -53,9 +53,6 @@ pub record Indexing (xs : List Op) (held : List ℕ) (i n : ℕ) : Type 0 where
   pub near : i ≤ 2 * n
   pub room : length held ≡ 1024
   pub whole : take n held ++ positions i (drop n xs) ≡ positions 0 xs
-
-pub indexing-starts : (xs : List Op) (held : List ℕ) → length held ≡ 1024 → Indexing xs held 0 0
-indexing-starts xs held h = record { near = omega arith; room = h; whole = refl }
 
 pub indexing-next : (ps : List (List ℕ)) (first : ℕ) (text : List ℕ) {xs : List Op} {held : List ℕ} {i n : ℕ} → Indexing xs held i n → n < 1024
     → drop n xs ≡ op_of ps first text ∷ drop (suc n) xs → {size : ℕ} → size ≡ size_of (kind_in text) → Indexing xs (set held n i) (i + size) (n + 1)
@@ -150,9 +147,6 @@ pub record Exporting (is : List ℕ) (xs : List Op) (former out : List ℕ) (i n
   pub wrote : Wrote former 0 made (4 * i) out
   pub long : length out ≡ length former
   pub whole : made ++ bytes_from is i (drop n xs) ≡ bytes_from is 0 xs
-
-pub exporting-starts : (is : List ℕ) (xs : List Op) (former : List ℕ) → Exporting is xs former former 0 0
-exporting-starts is xs former = record { near = omega arith; made = []; wrote = wrote_none former 0 (omega arith); long = refl; whole = refl }
 
 pub exporting-next : (ps : List (List ℕ)) (first : ℕ) (text : List ℕ) {is : List ℕ} {xs : List Op} {former out : List ℕ} {i n : ℕ} → Exporting is xs former out i n
     → drop n xs ≡ op_of ps first text ∷ drop (suc n) xs → {i' : ℕ} {out' : List ℕ} → (i' ≡ i + size_of (kind_in text)) × (out' ≡ over out (4 * i) (line_bytes ps is first i text))

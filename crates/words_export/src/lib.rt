@@ -31,13 +31,10 @@ fn indices_of(body: &[u8], count: usize) -> [u16; 1024]
     let mut indices = [0u16; 1024];
     let mut rest = body;
     let mut index: usize = 0;
-    let mut place = 0;
-    while place < count {
+    for place in 0..count {
         indices[place] = index as u16;
         index += words::size_of(kind_of(text::first_line(rest)));
-        let next = text::next_lines(rest);
-        rest = next;
-        place += 1;
+        rest = text::next_lines(rest);
     }
     indices
 }
@@ -112,13 +109,10 @@ fn put_lines(out: &mut [u8], primitives: &[u8], indices: &[u16], first: usize, b
 {
     let mut rest = body;
     let mut index: usize = 0;
-    let mut place = 0;
-    while place < indices.len() {
+    for _ in 0..indices.len() {
         let line = text::first_line(rest);
         index = put_line(out, primitives, indices, first, index, line);
-        let next = text::next_lines(rest);
-        rest = next;
-        place += 1;
+        rest = text::next_lines(rest);
     }
     4 * index
 }

@@ -1,5 +1,6 @@
 -- Laws of the import: the primitives line of a text, what is known of a line and of words that are accepted, and where they are refused.
 -- Assumes nothing.
+use Rattle.std.specs.Prelude.{Err, None, Ok, Option, Result, Some, ⊤}
 use mathlib.Core.Path.{◌≡◌, refl, sym, ap, subst, ◌∙◌}
 use mathlib.Core.Bool.{Bool, true, false, cond, not, ◌&&◌}
 use mathlib.Core.List.{List, [], ◌∷◌}
@@ -11,13 +12,9 @@ use borrow.Author.Tests.{leb-true, ltb-true}
 use Rattle.refusals.specs.declared.Refusal.{Refusal}
 use Rattle.refusals.specs.declared.Refusal.TheVariants.{Layout, BadName, BadWord}
 use Rattle.refusals.specs.Refusals.{place}
-use Rattle.refusals.specs.declared.Acceptance.{Acceptance}
-use Rattle.refusals.specs.declared.Acceptance.TheVariants.{Accepted as accepted, Refused as refused}
 use Rattle.text.specs.Text.{is_empty, line_words, Line, no_line, lines, all, distinct}
 use Rattle.text.proofs.TextLaws.{and_left, and_right, all-every, every_map, every-get_d}
 use Rattle.text.proofs.LineLaws.{lines_none, lines-some, lines-first}
-use Rattle.text.specs.declared.Place.{Place}
-use Rattle.text.specs.declared.Place.TheVariants.{At as at, Missing as missing}
 use Rattle.file_format.specs.declared.Section.TheVariants.{Primitives as primitives}
 use Rattle.file_format.specs.Layout.{list}
 use Rattle.file_format.specs.Rows.{is_capital, in_name, is_name, names_laid_out, well_named}
@@ -32,7 +29,7 @@ use Rattle.words_import.specs.HeldLines.{ShortNames}
 use Rattle.words_import.proofs.LengthLaws.{code_fits}
 
 -- a verdict is of one case
-not-accepted : {X : Type 0} (r : Refusal) → refused r ≡ accepted → X
+not-accepted : {X : Type 0} (r : Refusal) → ◌≡◌ {A = Result ⊤ Refusal} (Err r) (Ok tt) → X
 not-accepted r e = let x : ◌≡◌ {A = ℕ} 0 1 = cc in absurd (omega arith)
 
 -- ---- the lines of the text
@@ -46,11 +43,11 @@ pub primitives-are : (text : List ℕ) → primitives_of text ≡ list (get_or (
 unfolding primitives_of
 primitives-are text = ap list (first-text (lines text))
 
-pub primitives-empty : (text : List ℕ) → length text ≡ 0 → primitives_verdict text ≡ refused (Layout 1)
+pub primitives-empty : (text : List ℕ) → length text ≡ 0 → primitives_verdict text ≡ Err (Layout 1)
 unfolding primitives_verdict one_line_verdict
 primitives-empty text h = ap one_line_verdict (lines_none text (omega arith))
 
-one_more : (l : Line) (ls : List Line) → 0 < length ls → one_line_verdict (l ∷ ls) ≡ refused (Layout 1)
+one_more : (l : Line) (ls : List Line) → 0 < length ls → one_line_verdict (l ∷ ls) ≡ Err (Layout 1)
 unfolding one_line_verdict
 one_more l [] h = absurd (omega arith)
 one_more l (m ∷ ls) h = refl
@@ -60,7 +57,7 @@ module _ (text rest : List ℕ) (h : 0 < length text) (e : lines rest ≡ drop 1
   unfolding primitives_verdict
   by_first = ap one_line_verdict (lines-first text h ∙ ap (λ ls. get_or (lines text) 0 no_line ∷ ls) (sym e))
 
-  pub primitives-more : 0 < length rest → primitives_verdict text ≡ refused (Layout 1)
+  pub primitives-more : 0 < length rest → primitives_verdict text ≡ Err (Layout 1)
   primitives-more k = by_first ∙ one_more (get_or (lines text) 0 no_line) (lines rest) (lines-some rest k)
 
   pub primitives-one : length rest ≡ 0 → primitives_verdict text ≡ line_verdict (get_or (lines text) 0 no_line).text
@@ -70,11 +67,11 @@ module _ (text rest : List ℕ) (h : 0 < length text) (e : lines rest ≡ drop 1
 -- ---- a line that is accepted
 
 -- it is laid out, and its names are in order
-line-passes : (w : List ℕ) → line_verdict w ≡ accepted → (line_laid_out w ≡ true) × (well_named primitives (list w) ≡ true)
+line-passes : (w : List ℕ) → line_verdict w ≡ Ok tt → (line_laid_out w ≡ true) × (well_named primitives (list w) ≡ true)
 unfolding line_verdict
 line-passes w e = go (line_laid_out w) (well_named primitives (list w)) refl refl e
   where
-    go : (a b : Bool) → line_laid_out w ≡ a → well_named primitives (list w) ≡ b → cond a (cond b accepted (refused (BadName 1))) (refused (Layout 1)) ≡ accepted → (line_laid_out w ≡ true) × (well_named primitives (list w) ≡ true)
+    go : (a b : Bool) → line_laid_out w ≡ a → well_named primitives (list w) ≡ b → ◌≡◌ {A = Result ⊤ Refusal} (cond a (cond b (Ok tt) (Err (BadName 1))) (Err (Layout 1))) (Ok tt) → (line_laid_out w ≡ true) × (well_named primitives (list w) ≡ true)
     go true true p q r = (p, q)
     go true false p q r = not-accepted (BadName 1) r
     go false b p q r = not-accepted (Layout 1) r
@@ -92,13 +89,13 @@ names-short : (ws : List (List ℕ)) → well_named primitives ws ≡ true → S
 unfolding well_named
 names-short ws e = record { short = every-get_d (every_map name-short (all-every is_name ws (and_left (all is_name ws) (distinct ws) e))) (omega arith) }
 
-one_passes : (ls : List Line) → one_line_verdict ls ≡ accepted → line_verdict (first_text ls) ≡ accepted
+one_passes : (ls : List Line) → one_line_verdict ls ≡ Ok tt → line_verdict (first_text ls) ≡ Ok tt
 unfolding one_line_verdict
 one_passes [] e = not-accepted (Layout 1) e
 one_passes (l ∷ []) e = e
 one_passes (l ∷ m ∷ ls) e = not-accepted (Layout 1) e
 
-module _ (text : List ℕ) (e : primitives_verdict text ≡ accepted) where
+module _ (text : List ℕ) (e : primitives_verdict text ≡ Ok tt) where
   passes : (line_laid_out (first_text (lines text)) ≡ true) × (well_named primitives (list (first_text (lines text))) ≡ true)
   unfolding primitives_verdict
   passes = line-passes (first_text (lines text)) (one_passes (lines text) e)
@@ -114,38 +111,38 @@ module _ (text : List ℕ) (e : primitives_verdict text ≡ accepted) where
 -- ---- the verdict of an import
 
 module _ (bs line : List ℕ) where
-  pub import-refused : (r : Refusal) → primitives_verdict line ≡ refused r → import_verdict bs line ≡ refused r
+  pub import-refused : (r : Refusal) → primitives_verdict line ≡ Err r → import_verdict bs line ≡ Err r
   unfolding import_verdict both
   import-refused r e = ap (λ v. both v (fault_verdict (code_fault (length (primitives_of line)) (words_of bs)))) e
 
-  pub import-next : primitives_verdict line ≡ accepted → import_verdict bs line ≡ fault_verdict (code_fault (length (primitives_of line)) (words_of bs))
+  pub import-next : primitives_verdict line ≡ Ok tt → import_verdict bs line ≡ fault_verdict (code_fault (length (primitives_of line)) (words_of bs))
   unfolding import_verdict both
   import-next e = ap (λ v. both v (fault_verdict (code_fault (length (primitives_of line)) (words_of bs)))) e
 
-  both-pass : (v w : Acceptance) → both v w ≡ accepted → (v ≡ accepted) × (w ≡ accepted)
+  both-pass : (v w : Result ⊤ Refusal) → both v w ≡ Ok tt → (v ≡ Ok tt) × (w ≡ Ok tt)
   unfolding both
-  both-pass accepted w e = (refl, e)
-  both-pass (refused r) w e = not-accepted r e
+  both-pass (Ok tt) w e = (refl, e)
+  both-pass (Err r) w e = not-accepted r e
 
-  fault-none : (p : Place) → fault_verdict p ≡ accepted → p ≡ missing
+  fault-none : (p : Option ℕ) → fault_verdict p ≡ Ok tt → p ≡ None
   unfolding fault_verdict
-  fault-none missing e = refl
-  fault-none (at i) e = not-accepted (BadWord i) e
+  fault-none None e = refl
+  fault-none (Some i) e = not-accepted (BadWord i) e
 
-  first-none : (n : ℕ) (ws : List Word) (p : Place) → word_fault n ws ≡ p → code_fault n ws ≡ missing → word_fault n ws ≡ missing
-  first-none n ws missing q e = q
-  first-none n ws (at i) q e = let f = sym (fault-first n i ws q) ∙ e in let x : ◌≡◌ {A = ℕ} 0 1 = cc in absurd (omega arith)
+  first-none : (n : ℕ) (ws : List Word) (p : Option ℕ) → word_fault n ws ≡ p → code_fault n ws ≡ None → word_fault n ws ≡ None
+  first-none n ws None q e = q
+  first-none n ws (Some i) q e = let f = sym (fault-first n i ws q) ∙ e in let x : ◌≡◌ {A = ℕ} 0 1 = cc in absurd (omega arith)
 
-  module _ (e : import_verdict bs line ≡ accepted) where
-    pub import-line : primitives_verdict line ≡ accepted
+  module _ (e : import_verdict bs line ≡ Ok tt) where
+    pub import-line : primitives_verdict line ≡ Ok tt
     unfolding import_verdict
     import-line = (both-pass _ _ e).0
 
-    pub import-sound : code_fault (length (primitives_of line)) (words_of bs) ≡ missing
+    pub import-sound : code_fault (length (primitives_of line)) (words_of bs) ≡ None
     unfolding import_verdict
     import-sound = fault-none _ (both-pass _ _ e).1
 
-    pub import-words : word_fault (length (primitives_of line)) (words_of bs) ≡ missing
+    pub import-words : word_fault (length (primitives_of line)) (words_of bs) ≡ None
     import-words = first-none (length (primitives_of line)) (words_of bs) (word_fault (length (primitives_of line)) (words_of bs)) refl import-sound
 
     pub import-readable : Readable (words_of bs)
@@ -163,25 +160,25 @@ module _ (bs line : List ℕ) where
 
   -- ---- a refusal: at place 1, or at the earliest word at fault
 
-  line-place : (ls : List Line) (r : Refusal) → one_line_verdict ls ≡ refused r → place r ≡ 1
+  line-place : (ls : List Line) (r : Refusal) → one_line_verdict ls ≡ Err r → place r ≡ 1
   unfolding one_line_verdict line_verdict place
   line-place [] r e = let q : Layout 1 ≡ r = cc in rw (← q) refl
   line-place (l ∷ []) r e = go (line_laid_out l.text) (well_named primitives (list l.text)) e
     where
-      go : (a b : Bool) → cond a (cond b accepted (refused (BadName 1))) (refused (Layout 1)) ≡ refused r → place r ≡ 1
+      go : (a b : Bool) → ◌≡◌ {A = Result ⊤ Refusal} (cond a (cond b (Ok tt) (Err (BadName 1))) (Err (Layout 1))) (Err r) → place r ≡ 1
       go true true e = not-accepted r (sym e)
       go true false e = let q : BadName 1 ≡ r = cc in rw (← q) refl
       go false b e = let q : Layout 1 ≡ r = cc in rw (← q) refl
   line-place (l ∷ m ∷ ls) r e = let q : Layout 1 ≡ r = cc in rw (← q) refl
 
-  pub import-place : (r : Refusal) → import_verdict bs line ≡ refused r → place r ≤ 2048
+  pub import-place : (r : Refusal) → import_verdict bs line ≡ Err r → place r ≤ 2048
   unfolding import_verdict primitives_verdict both fault_verdict place
   import-place r = go (one_line_verdict (lines line)) (code_fault (length (primitives_of line)) (words_of bs)) refl refl
     where
-      go : (v : Acceptance) (p : Place) → one_line_verdict (lines line) ≡ v → code_fault (length (primitives_of line)) (words_of bs) ≡ p → both v (fault_verdict p) ≡ refused r → place r ≤ 2048
-      go (refused x) p q h e = omega (arith, line-place (lines line) r (q ∙ e))
-      go accepted missing q h e = not-accepted r (sym e)
-      go accepted (at i) q h e = let f : BadWord i ≡ r = cc in rw (← f) (code-fault-near (length (primitives_of line)) (words_of bs) i h)
+      go : (v : Result ⊤ Refusal) (p : Option ℕ) → one_line_verdict (lines line) ≡ v → code_fault (length (primitives_of line)) (words_of bs) ≡ p → both v (fault_verdict p) ≡ Err r → place r ≤ 2048
+      go (Err x) p q h e = omega (arith, line-place (lines line) r (q ∙ e))
+      go (Ok tt) None q h e = not-accepted r (sym e)
+      go (Ok tt) (Some i) q h e = let f : BadWord i ≡ r = cc in rw (← f) (code-fault-near (length (primitives_of line)) (words_of bs) i h)
 
 -- what an import makes, by the first line as the code has it
 pub import-text : (bs line w : List ℕ) → w ≡ (get_or (lines line) 0 no_line).text → import_text bs line ≡ code_text (list w) (items (decoded (words_of bs)))

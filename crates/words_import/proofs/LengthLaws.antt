@@ -1,5 +1,6 @@
 -- Laws of how long the lines of an import are: no line has more than 30 bytes, and all of them with their names line have 32,768 at most.
 -- Assumes nothing.
+use Rattle.std.specs.Prelude.{None, Option, Some}
 use mathlib.Core.Path.{◌≡◌, refl, sym, ◌∙◌}
 use mathlib.Core.Bool.{true}
 use mathlib.Core.List.{List, [], ◌∷◌, map}
@@ -13,8 +14,6 @@ use mir.Val.{SFits}
 use borrow.Author.Tests.{leb-true}
 use Rattle.text.specs.Text.{index_of}
 use Rattle.text_decimals.specs.Decimal.{decimal}
-use Rattle.text.specs.declared.Place.{Place}
-use Rattle.text.specs.declared.Place.TheVariants.{At as at, Missing as missing}
 use Rattle.text_decimals.proofs.DecimalLaws.{decimal-length}
 use Rattle.instructions.specs.declared.Argument.{Argument}
 use Rattle.instructions.specs.declared.Argument.TheVariants.{Absent, Target, Primitive, Within}
@@ -63,7 +62,7 @@ module _ (ps : List (List ℕ)) (s : ShortNames ps) (xs : List Item) (m : Addres
       omega (arith, parts-length (decimal n) (kind_at x.kind).name (argument_text ps xs x (kind_at x.kind).argument))
 
   -- those of instructions with no fault but in offsets, before which c stand
-  lines-short : (n c : ℕ) (es : List Decoded) → Spaced c es → fault_from n c es ≡ missing → length (lines_from ps xs c (items es)) ≤ 30 * length (items es)
+  lines-short : (n c : ℕ) (es : List Decoded) → Spaced c es → fault_from n c es ≡ None → length (lines_from ps xs c (items es)) ≤ 30 * length (items es)
   unfolding items lines_from fault_from
   lines-short n c [] none e = omega arith
   lines-short n c (unreadable i ∷ es) (unread l) e = let z : ◌≡◌ {A = ℕ} 0 1 = cc in absurd (omega arith)
@@ -79,9 +78,9 @@ few-addresses : (xs : List Item) → length xs ≤ 1024 → Addresses xs
 unfolding number_at
 few-addresses xs h (pos n) = go (place_from 0 n (map (λ x. x.index) xs)) refl
   where
-    go : (p : Place) → place_from 0 n (map (λ x. x.index) xs) ≡ p → index_of p < 1024
-    go missing e = omega arith
-    go (at k) e = let q = (place_found 0 n k (map (λ x. x.index) xs) e).1 in omega (arith, simp length-map at q)
+    go : (p : Option ℕ) → place_from 0 n (map (λ x. x.index) xs) ≡ p → index_of p < 1024
+    go None e = omega arith
+    go (Some k) e = let q = (place_found 0 n k (map (λ x. x.index) xs) e).1 in omega (arith, simp length-map at q)
 few-addresses xs h (negsuc n) = omega arith
 
 pub code_fits : (ps : List (List ℕ)) → ShortNames ps → (ws : List Word) → Readable ws → length (code_text ps (items (decoded ws))) ≤ 32768

@@ -1,4 +1,5 @@
 -- Laws of a line of code as it is written: its ARG by what the kind takes, and how long it is. Assumes nothing.
+use Rattle.std.specs.Prelude.{Option}
 use mathlib.Core.Path.{◌≡◌, refl, sym, ap, ◌∙◌}
 use mathlib.Core.List.{List, [], ◌++◌}
 use Prim.Native.Nat.{ℕ, suc, ◌+◌}
@@ -10,7 +11,6 @@ use Rattle.text.specs.Text.{bytes, index_of}
 use Rattle.text_decimals.specs.Decimal.{decimal, integer}
 use Rattle.instructions.specs.declared.Argument.{Argument}
 use Rattle.instructions.specs.declared.Argument.TheVariants.{Absent, Target, Primitive, Within}
-use Rattle.text.specs.declared.Place.{Place}
 use Rattle.words.specs.Held.{number_in}
 use Rattle.words_import.specs.HeldLines.{argument_in}
 
@@ -21,7 +21,7 @@ module _ (ps : List (List ℕ)) (t : List ℕ) (i : ℕ) (z : ℤ) {a : Argument
   unfolding argument_in
   argument-absent e = rw e refl
 
-  pub argument-target : a ≡ Target → {x y : ℤ} {p : Place} {n : ℕ} → x ≡ pos (suc i) +ℤ z → y ≡ x → p ≡ number_in t y → n ≡ index_of p → argument_in ps t i z a ≡ decimal n
+  pub argument-target : a ≡ Target → {x y : ℤ} {p : Option ℕ} {n : ℕ} → x ≡ pos (suc i) +ℤ z → y ≡ x → p ≡ number_in t y → n ≡ index_of p → argument_in ps t i z a ≡ decimal n
   unfolding argument_in
   argument-target e {x} {y} {p} {n} f g h k = rw e (sym (ap decimal (k ∙ ap index_of (h ∙ ap (number_in t) (g ∙ f)))))
 

@@ -1,5 +1,6 @@
 -- Laws of the pass that writes the lines: the line that is written is the definition's, no line has more than 30 bytes, and one turn.
 -- Assumes nothing.
+use Rattle.std.specs.Prelude.{None, Some}
 use mathlib.Core.Path.{◌≡◌, refl, sym, ap, ◌∙◌}
 use mathlib.Core.Bool.{Bool, true, false, cond}
 use mathlib.Core.List.{List, [], ◌++◌, append_assoc, append-nil}
@@ -18,9 +19,7 @@ use Rattle.text_decimals.specs.Memory.{over}
 use Rattle.text_decimals.proofs.MemoryLaws.{Wrote, wrote_none, wrote-more}
 use Rattle.instructions.specs.declared.Argument.{Argument}
 use Rattle.instructions.specs.declared.Argument.TheVariants.{Absent, Target, Primitive, Within}
-use Rattle.text.specs.declared.Place.TheVariants.{At as at, Missing as missing}
 use Rattle.instructions.specs.Kinds.{kind_at}
-use Rattle.words.specs.declared.Head.TheVariants as heads
 use Rattle.words.specs.Words.{Word}
 use Rattle.words.specs.Decoding.{Item, item_of, opcode, decoded_words, decoded, items, fault_from, size_of}
 use Rattle.words.specs.Lines.{argument_text, line_text, lines_from}
@@ -52,7 +51,7 @@ line_same ps d n i k z =
 held_small : (v : ℕ) → index_of (number_held v) < 1024
 held_small v = go (ltb v 1024) refl
   where
-    go : (b : Bool) → ltb v 1024 ≡ b → index_of (cond b (at v) missing) < 1024
+    go : (b : Bool) → ltb v 1024 ≡ b → index_of (cond b (Some v) None) < 1024
     go true e = ltb-true v 1024 e
     go false e = omega arith
 
@@ -71,7 +70,7 @@ written-short ps s {xs} {t} d n i k z h g l =
 -- out holds the lines of the instructions before index i, c of them, over `former` from `start` on, up to e; those of the words ws are left
 pub record Writing (ps : List (List ℕ)) (former : List ℕ) (start : ℕ) (all : List Word) (out : List ℕ) (e i c : ℕ) (ws : List Word) : Type 0 where
   pub listed : ℕ
-  pub sound : fault_from listed c (decoded_words opcode i ws) ≡ missing
+  pub sound : fault_from listed c (decoded_words opcode i ws) ≡ None
   pub near : i ≤ 2 * c
   pub few : c ≤ 1024
   pub made : List ℕ
@@ -96,7 +95,7 @@ writing-starts ps former start ws r h = record {
 
 module _ {ps : List (List ℕ)} {former : List ℕ} {start : ℕ} {all : List Word} {out : List ℕ} {e i c : ℕ} {ws : List Word} (w : Writing ps former start all out e i c ws) where
   -- what is no instruction is not there
-  pub writing-reads : {X : Type 0} → 0 < length ws → head_of ws ≡ heads.Unreadable → X
+  pub writing-reads : {X : Type 0} → 0 < length ws → head_of ws ≡ None → X
   writing-reads l h =
       let p = sym w.sound ∙ fault-unread w.listed c i ws l h in
       let x : ◌≡◌ {A = ℕ} 0 1 = cc in

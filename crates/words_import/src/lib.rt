@@ -1,7 +1,7 @@
 // The import: the compiler's words to lines of code. The meaning is in specs/ of `words`.
 #![tactic(auto)]
 
-ghost use Rattle.std.specs.Prelude.{◌≡◌, ◌+◌, ◌*◌, ◌≤◌, ◌<◌, ◌++◌, length, drop};
+ghost use Rattle.std.specs.Prelude.{◌≡◌, ◌+◌, ◌*◌, ◌≤◌, ◌<◌, ◌++◌, length, drop, Ok};
 ghost use Rattle.text_decimals.specs.Memory.{over};
 ghost use Rattle.instructions.specs.HeldColumns.{Begins, Joined};
 ghost use Rattle.file_format.specs.Layout.{list};
@@ -9,16 +9,13 @@ ghost use Rattle.words.specs.Words.{words_of};
 ghost use Rattle.words.specs.Decoding.{decoded, items};
 ghost use Rattle.words.specs.Lines.{lines_from, code_text};
 ghost use Rattle.words.specs.Import.{line_verdict, primitives_verdict, fault_verdict, import_verdict, import_text};
-ghost use Rattle.refusals.specs.declared.Acceptance.TheVariants.{Accepted};
 ghost use Rattle.words.specs.Held.{Readable, Numbered};
 ghost use Rattle.words_import.specs.HeldLines.{op_in, argument_in, ShortNames};
 
 use file_format::Section;
 use file_lines::WordTest;
 use instructions::Argument;
-use refusals::{Acceptance, Refusal};
-use text::Place;
-use words::Head;
+use refusals::Refusal;
 
 // Puts AT and OP of instruction n, which is of kind k, over out from `at` on, each with the space after it, and answers where they end. The two
 // tables are those of `instructions::put_name_in`.
@@ -78,16 +75,12 @@ fn put_lines(out: &mut [u8], at: usize, primitives: &[u8], numbers: &[u16], word
     let mut rest = words;
     let mut index: usize = 0;
     let mut count: usize = 0;
-    while 0 < rest.len() {
-        let Head::Instruction(k, argument) = words::read_head(&coded, rest) else {
-            return e;
-        };
+    while let Some((k, argument)) = words::read_head(&coded, rest) {
         let a = put_op(out, e, &starts, &names, count, k);
-        let takes = instructions::argument_in(&codes, &lows, &highs, Place::At(k));
+        let takes = instructions::argument_in(&codes, &lows, &highs, Some(k));
         let b = put_argument(out, a, primitives, numbers, index, takes, argument);
         e = text_decimals::put(out, b, b"\n");
-        let next = words::after(k, rest);
-        rest = next;
+        rest = words::after(k, rest);
         index += words::size_of(k);
         count += 1;
     }
@@ -105,67 +98,63 @@ fn put_code(out: &mut [u8], primitives: &[u8], numbers: &[u16], words: &[u8]) ->
 }
 
 // Whether the primitives line is laid out, and its names are in order: 2, then 4, at place 1.
-fn check_names(line: &[u8]) -> Acceptance
+fn check_names(line: &[u8]) -> Result<(), Refusal>
     ensures { result ≡ line_verdict line.now }
 {
     if !file_lines::all_words(WordTest::Filled, line) {
-        return Acceptance::Refused(Refusal::Layout(1));
+        return Err(Refusal::Layout(1));
     }
     if !file_lines::names_laid_out(Section::Primitives, line) {
-        return Acceptance::Refused(Refusal::Layout(1));
+        return Err(Refusal::Layout(1));
     }
     if text::same(line, b"-") {
-        return Acceptance::Accepted;
+        return Ok(());
     }
     if !file_lines::all_words(WordTest::Primitive, line) {
-        return Acceptance::Refused(Refusal::BadName(1));
+        return Err(Refusal::BadName(1));
     }
     if !file_names::distinct(line) {
-        return Acceptance::Refused(Refusal::BadName(1));
+        return Err(Refusal::BadName(1));
     }
-    Acceptance::Accepted
+    Ok(())
 }
 
 // The primitives line, with or without a final line feed.
-fn check_primitives(text: &[u8]) -> Acceptance
+fn check_primitives(text: &[u8]) -> Result<(), Refusal>
     ensures { result ≡ primitives_verdict text.now }
 {
     if text.len() == 0 {
-        return Acceptance::Refused(Refusal::Layout(1));
+        return Err(Refusal::Layout(1));
     }
     let rest = text::next_lines(text);
     if 0 < rest.len() {
-        return Acceptance::Refused(Refusal::Layout(1));
+        return Err(Refusal::Layout(1));
     }
     check_names(text::first_line(text))
 }
 
 // "New numbers: 12"
-fn fault_verdict(place: Place) -> Acceptance
+fn fault_verdict(place: Option<usize>) -> Result<(), Refusal>
     ensures { result ≡ fault_verdict place }
 {
     match place {
-        Place::Missing => Acceptance::Accepted,
-        Place::At(i) => Acceptance::Refused(Refusal::BadWord(i)),
+        None => Ok(()),
+        Some(i) => Err(Refusal::BadWord(i)),
     }
 }
 
 // Whether an import refuses words or their primitives line.
-pub fn check_import(words: &[u8], primitives: &[u8]) -> Acceptance
+pub fn check_import(words: &[u8], primitives: &[u8]) -> Result<(), Refusal>
     ensures { result ≡ import_verdict words.now primitives.now }
 {
-    match check_primitives(primitives) {
-        Acceptance::Refused(refusal) => Acceptance::Refused(refusal),
-        Acceptance::Accepted => {
-            let listed = file_layout::count_listed(text::first_line(primitives));
-            fault_verdict(words::code_fault(listed, words))
-        }
-    }
+    check_primitives(primitives)?;
+    let listed = file_layout::count_listed(text::first_line(primitives));
+    fault_verdict(words::code_fault(listed, words))
 }
 
 // Puts the lines of words that are accepted at the start of out, and answers their length.
 pub fn put_import(words: &[u8], primitives: &[u8], out: &mut [u8]) -> usize
-    requires { (import_verdict words.now primitives.now ≡ Accepted) × (32768 ≤ length out.old) }
+    requires { (import_verdict words.now primitives.now ≡ Ok tt) × (32768 ≤ length out.old) }
     ensures value { result ≡ length (import_text words.now primitives.now) }
     ensures out_after { out.new ≡ import_text words.now primitives.now ++ drop (length (import_text words.now primitives.now)) out.old }
 {

@@ -1,5 +1,6 @@
 -- Laws of words that an import accepts: the instructions decoded from them stand one after the other, and their words and bytes are
 -- those that were given. Assumes nothing.
+use Rattle.std.specs.Prelude.{None, Option, Some}
 use mathlib.Core.Path.{◌≡◌, refl, ap, subst, ◌∙◌}
 use mathlib.Core.Bool.{Bool, true, false, cond}
 use mathlib.Core.List.{List, [], ◌∷◌, map}
@@ -8,8 +9,6 @@ use native.Mathlib.Omega.{arith}
 use native.Mathlib.Nat.{mod-eq_of_lt}
 use lib.Dec.{ltb}
 use lib.IntN.{pos, negsuc}
-use Rattle.text.specs.declared.Place.{Place}
-use Rattle.text.specs.declared.Place.TheVariants.{At as at, Missing as missing}
 use Rattle.text.proofs.TextLaws.{Every, none, more}
 use Rattle.numbers.specs.Numbers.{modulus, half, residue, signed}
 use Rattle.instructions.specs.Kinds.{kind_at}
@@ -28,19 +27,19 @@ use Rattle.words.proofs.ExportLaws as placed
 -- the words ns from index i on hold the instructions xs
 data Holds : ℕ → List ℕ → List Item → Type 0 where
   done : {i : ℕ} → Holds i [] []
-  alone : {i w k : ℕ} {ns : List ℕ} {xs : List Item} → kind_coded w ≡ at k → has_argument (kind_at k).argument ≡ false → Holds (suc i) ns xs → Holds i (w ∷ ns) (item_of i k (pos 0) ∷ xs)
-  paired : {i w v k : ℕ} {ns : List ℕ} {xs : List Item} → kind_coded w ≡ at k → has_argument (kind_at k).argument ≡ true → Holds (suc (suc i)) ns xs
+  alone : {i w k : ℕ} {ns : List ℕ} {xs : List Item} → kind_coded w ≡ Some k → has_argument (kind_at k).argument ≡ false → Holds (suc i) ns xs → Holds i (w ∷ ns) (item_of i k (pos 0) ∷ xs)
+  paired : {i w v k : ℕ} {ns : List ℕ} {xs : List Item} → kind_coded w ≡ Some k → has_argument (kind_at k).argument ≡ true → Holds (suc (suc i)) ns xs
       → Holds i (w ∷ v ∷ ns) (item_of i k (signed word_bits v) ∷ xs)
 
-pub faulty : {X : Type 0} (i : ℕ) → at i ≡ missing → X
+pub faulty : {X : Type 0} (i : ℕ) → Some i ≡ None → X
 faulty i e = let z : ◌≡◌ {A = ℕ} 0 1 = cc in absurd (omega arith)
 
 -- the fault of what follows an instruction
-fault-rest : (n c : ℕ) (x : Item) (es : List Decoded) → fault_from n c (item x ∷ es) ≡ missing → fault_from n (suc c) es ≡ missing
+fault-rest : (n c : ℕ) (x : Item) (es : List Decoded) → fault_from n c (item x ∷ es) ≡ None → fault_from n (suc c) es ≡ None
 unfolding fault_from
 fault-rest n c x es e = go (ltb c 1024) (call_listed n x.argument (kind_at x.kind).argument) e
   where
-    go : (b d : Bool) → cond b (cond d (fault_from n (suc c) es) (at (suc x.index))) (at x.index) ≡ missing → fault_from n (suc c) es ≡ missing
+    go : (b d : Bool) → cond b (cond d (fault_from n (suc c) es) (Some (suc x.index))) (Some x.index) ≡ None → fault_from n (suc c) es ≡ None
     go true true q = q
     go true false q = faulty (suc x.index) q
     go false d q = faulty x.index q
@@ -49,35 +48,35 @@ fault-rest n c x es e = go (ltb c 1024) (call_listed n x.argument (kind_at x.kin
 Held : ℕ → List Word → Type 0
 Held i ws = (ns : List ℕ) × (ws ≡ map whole ns) × Holds i ns (items (decoded_words opcode i ws))
 
-sound-holds : (n c i : ℕ) (ws : List Word) → fault_from n c (decoded_words opcode i ws) ≡ missing → Held i ws
+sound-holds : (n c i : ℕ) (ws : List Word) → fault_from n c (decoded_words opcode i ws) ≡ None → Held i ws
 unfolding Held decoded_words coded items fault_from
 sound-holds n c i [] e = ([], refl, done)
 sound-holds n c i (cut ∷ ws) e = faulty i e
 sound-holds n c i (whole w ∷ []) e = go (kind_coded w) refl e
   where
-    plain_end : (k : ℕ) (b : Bool) → kind_coded w ≡ at k → has_argument (kind_at k).argument ≡ b → fault_from n c (cond b (unreadable i ∷ []) (item (item_of i k (pos 0)) ∷ [])) ≡ missing
+    plain_end : (k : ℕ) (b : Bool) → kind_coded w ≡ Some k → has_argument (kind_at k).argument ≡ b → fault_from n c (cond b (unreadable i ∷ []) (item (item_of i k (pos 0)) ∷ [])) ≡ None
         → (ns : List ℕ) × (whole w ∷ [] ≡ map whole ns) × Holds i ns (items (cond b (unreadable i ∷ []) (item (item_of i k (pos 0)) ∷ [])))
     plain_end k true q a f = faulty i f
     plain_end k false q a f = (w ∷ [], refl, alone q a done)
 
-    go : (p : Place) → kind_coded w ≡ p → fault_from n c (coded i (λ d. decoded_words d (suc i) []) p) ≡ missing
+    go : (p : Option ℕ) → kind_coded w ≡ p → fault_from n c (coded i (λ d. decoded_words d (suc i) []) p) ≡ None
         → (ns : List ℕ) × (whole w ∷ [] ≡ map whole ns) × Holds i ns (items (coded i (λ d. decoded_words d (suc i) []) p))
-    go missing q f = faulty i f
-    go (at k) q f = plain_end k (has_argument (kind_at k).argument) q refl f
+    go None q f = faulty i f
+    go (Some k) q f = plain_end k (has_argument (kind_at k).argument) q refl f
 sound-holds n c i (whole w ∷ v ∷ ws) e = go (kind_coded w) refl e (sound-holds n (suc c) (suc i) (v ∷ ws)) (sound-holds n (suc c) (suc (suc i)) ws)
   where
-    after_two : (k : ℕ) (v : Word) → kind_coded w ≡ at k → has_argument (kind_at k).argument ≡ true → fault_from n c (decoded_words (argument i k) (suc i) (v ∷ ws)) ≡ missing
-        → (fault_from n (suc c) (decoded_words opcode (suc (suc i)) ws) ≡ missing → Held (suc (suc i)) ws)
+    after_two : (k : ℕ) (v : Word) → kind_coded w ≡ Some k → has_argument (kind_at k).argument ≡ true → fault_from n c (decoded_words (argument i k) (suc i) (v ∷ ws)) ≡ None
+        → (fault_from n (suc c) (decoded_words opcode (suc (suc i)) ws) ≡ None → Held (suc (suc i)) ws)
         → (ns : List ℕ) × (whole w ∷ v ∷ ws ≡ map whole ns) × Holds i ns (items (decoded_words (argument i k) (suc i) (v ∷ ws)))
     after_two k cut q a f two = faulty i f
     after_two k (whole u) q a f two =
         let h = two (fault-rest n c (item_of i k (signed word_bits u)) (decoded_words opcode (suc (suc i)) ws) f) in
         (w ∷ u ∷ h.0, ap (λ vs. whole w ∷ whole u ∷ vs) h.1, paired q a h.2)
 
-    by-argument : (k : ℕ) (b : Bool) → kind_coded w ≡ at k → has_argument (kind_at k).argument ≡ b
-        → fault_from n c (cond b (decoded_words (argument i k) (suc i) (v ∷ ws)) (item (item_of i k (pos 0)) ∷ decoded_words opcode (suc i) (v ∷ ws))) ≡ missing
-        → (fault_from n (suc c) (decoded_words opcode (suc i) (v ∷ ws)) ≡ missing → Held (suc i) (v ∷ ws))
-        → (fault_from n (suc c) (decoded_words opcode (suc (suc i)) ws) ≡ missing → Held (suc (suc i)) ws)
+    by-argument : (k : ℕ) (b : Bool) → kind_coded w ≡ Some k → has_argument (kind_at k).argument ≡ b
+        → fault_from n c (cond b (decoded_words (argument i k) (suc i) (v ∷ ws)) (item (item_of i k (pos 0)) ∷ decoded_words opcode (suc i) (v ∷ ws))) ≡ None
+        → (fault_from n (suc c) (decoded_words opcode (suc i) (v ∷ ws)) ≡ None → Held (suc i) (v ∷ ws))
+        → (fault_from n (suc c) (decoded_words opcode (suc (suc i)) ws) ≡ None → Held (suc (suc i)) ws)
         → (ns : List ℕ) × (whole w ∷ v ∷ ws ≡ map whole ns)
         × Holds i ns (items (cond b (decoded_words (argument i k) (suc i) (v ∷ ws)) (item (item_of i k (pos 0)) ∷ decoded_words opcode (suc i) (v ∷ ws))))
     by-argument k true q a f one two = after_two k v q a f two
@@ -85,12 +84,12 @@ sound-holds n c i (whole w ∷ v ∷ ws) e = go (kind_coded w) refl e (sound-hol
         let h = one (fault-rest n c (item_of i k (pos 0)) (decoded_words opcode (suc i) (v ∷ ws)) f) in
         (w ∷ h.0, ap (λ vs. whole w ∷ vs) h.1, alone q a h.2)
 
-    go : (p : Place) → kind_coded w ≡ p → fault_from n c (coded i (λ d. decoded_words d (suc i) (v ∷ ws)) p) ≡ missing
-        → (fault_from n (suc c) (decoded_words opcode (suc i) (v ∷ ws)) ≡ missing → Held (suc i) (v ∷ ws))
-        → (fault_from n (suc c) (decoded_words opcode (suc (suc i)) ws) ≡ missing → Held (suc (suc i)) ws)
+    go : (p : Option ℕ) → kind_coded w ≡ p → fault_from n c (coded i (λ d. decoded_words d (suc i) (v ∷ ws)) p) ≡ None
+        → (fault_from n (suc c) (decoded_words opcode (suc i) (v ∷ ws)) ≡ None → Held (suc i) (v ∷ ws))
+        → (fault_from n (suc c) (decoded_words opcode (suc (suc i)) ws) ≡ None → Held (suc (suc i)) ws)
         → (ns : List ℕ) × (whole w ∷ v ∷ ws ≡ map whole ns) × Holds i ns (items (coded i (λ d. decoded_words d (suc i) (v ∷ ws)) p))
-    go missing q f one two = faulty i f
-    go (at k) q f one two = by-argument k (has_argument (kind_at k).argument) q refl f one two
+    go None q f one two = faulty i f
+    go (Some k) q f one two = by-argument k (has_argument (kind_at k).argument) q refl f one two
 
 -- ---- what they hold
 
@@ -155,7 +154,7 @@ bytes_back (a ∷ b ∷ c ∷ d ∷ bs) (n ∷ ns) (more h (more i (more j (more
 
 -- ---- all
 
-module _ (bs : List ℕ) (small : Every (λ b. b < 256) bs) (n : ℕ) (sound : fault_from n 0 (decoded_words opcode 0 (words_of bs)) ≡ missing) where
+module _ (bs : List ℕ) (small : Every (λ b. b < 256) bs) (n : ℕ) (sound : fault_from n 0 (decoded_words opcode 0 (words_of bs)) ≡ None) where
   pub decoded-placed : Placed 0 (items (decoded_words opcode 0 (words_of bs)))
   unfolding Held
   decoded-placed =

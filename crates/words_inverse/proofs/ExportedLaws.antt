@@ -1,5 +1,6 @@
 -- Laws of an export that is imported: of a passing file the words are accepted with its primitives line, and the lines made are those of
 -- the file, from address 0 on. Assumes nothing.
+use Rattle.std.specs.Prelude.{None, Ok, Option, Some}
 use mathlib.Core.Path.{◌≡◌, refl, sym, ap, subst, ◌∙◌}
 use mathlib.Core.Bool.{Bool, true, false, cond, not, false≢true}
 use mathlib.Core.List.{List, [], ◌∷◌, ◌++◌, map}
@@ -9,10 +10,7 @@ use lib.Dec.{ltb}
 use lib.IntN.{pos, negsuc, nat_abs, ◌-ℤ◌}
 use lib.ListN.{length, length-map}
 use borrow.Author.Tests.{leb-true}
-use Rattle.refusals.specs.declared.Acceptance.TheVariants.{Accepted as accepted}
 use Rattle.text.specs.Text.{bytes, is_empty, equals, parted_by, line_words, Line, lines_of, lines, place_among, index_of, find, all, lines_text}
-use Rattle.text.specs.declared.Place.{Place}
-use Rattle.text.specs.declared.Place.TheVariants.{At as at, Missing as missing}
 use Rattle.text.proofs.TextLaws.{Every, none, place-below}
 use Rattle.text.proofs.LineLaws.{ended_line, unended_line}
 use Rattle.numbers.specs.Numbers.{IsNumber, numbers}
@@ -58,9 +56,9 @@ find-small : (w : List ℕ) (ws : List (List ℕ)) → find w ws ≤ length ws
 unfolding find
 find-small w ws = go (place_among w ws) refl
   where
-    go : (p : Place) → place_among w ws ≡ p → index_of p ≤ length ws
-    go (at k) e = omega (arith, place-below 0 w ws e)
-    go missing e = omega arith
+    go : (p : Option ℕ) → place_among w ws ≡ p → index_of p ≤ length ws
+    go (Some k) e = omega (arith, place-below 0 w ws e)
+    go None e = omega arith
 
 value-number : (ps : List (List ℕ)) → length ps ≤ 32 → (first : ℕ) → first ≤ 60000 → (w : List ℕ) (a : Argument) → IsNumber (relative first (argument_value ps w a) a)
 unfolding relative argument_value
@@ -125,7 +123,7 @@ module _ (text : List ℕ) (p : Passes (lines text)) where
       go true = none
       go false = pieces-every 32 primitives-free
 
-  pub primitives-accepted : primitives_verdict (primitives_line ls) ≡ accepted
+  pub primitives-accepted : primitives_verdict (primitives_line ls) ≡ Ok tt
   unfolding primitives_verdict one_line_verdict line_verdict line_laid_out is_laid_out named
   primitives-accepted =
       rw (primitives-line, passes-spaced p (names primitives) refl, passes-laid-out p (names primitives) refl, passes-named p (names primitives) refl) refl
@@ -180,7 +178,7 @@ module _ (text : List ℕ) (p : Passes (lines text)) where
     unfolding export_bytes
     export-some = let h = (export-fits ops some few).0 in omega arith
 
-    words-sound : word_fault (length ps) (words_of (export_bytes ls)) ≡ missing
+    words-sound : word_fault (length ps) (words_of (export_bytes ls)) ≡ None
     unfolding decoded
     words-sound =
         fault-starts (length ps) (export_bytes ls) export-some
@@ -188,14 +186,14 @@ module _ (text : List ℕ) (p : Passes (lines text)) where
         ∙ ap (fault_from (length ps) 0) (bytes-entries file-placed)
         ∙ no-fault ps ops few 0 said (omega arith) room
 
-    export-sound : code_fault (length ps) (words_of (export_bytes ls)) ≡ missing
+    export-sound : code_fault (length ps) (words_of (export_bytes ls)) ≡ None
     export-sound =
         fault-then (length ps) (words_of (export_bytes ls)) words-sound
         ∙ ap (λ xs. offset_fault xs xs) decoded-items
         ∙ no-offset-fault ps ops few 0 said (omega arith) room
 
     -- the words are accepted with the file's own primitives line
-    pub words-imported : import_verdict (export_bytes ls) (primitives_line ls) ≡ accepted
+    pub words-imported : import_verdict (export_bytes ls) (primitives_line ls) ≡ Ok tt
     unfolding import_verdict both fault_verdict
     words-imported = rw (primitives-accepted, primitives-same, export-sound) refl
 
@@ -214,7 +212,7 @@ module _ (text : List ℕ) (p : Passes (lines text)) where
         subst (λ n. Said ps n 0 (lines_of_code (body ls)) ops) (sym counted)
         (all_said ls begins (lines_of_code (body ls)) (code-passed Layout-row ls p.layout) (code-passed range-row ls p.range) (code-passed name-row ls p.names) (code-passed target_row ls p.targets))
 
-    pub export-imported : import_verdict (export_bytes ls) (primitives_line ls) ≡ accepted
+    pub export-imported : import_verdict (export_bytes ls) (primitives_line ls) ≡ Ok tt
     export-imported = words-imported (lines_of_code (body ls)) file-said
 
     pub export-text : import_text (export_bytes ls) (primitives_line ls) ≡ code_section ls

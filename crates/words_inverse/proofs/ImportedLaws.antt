@@ -1,5 +1,6 @@
 -- Laws of an import of exported words: the instructions of lines that say what is exported are put together without a fault, and an
 -- import writes these lines. Assumes nothing.
+use Rattle.std.specs.Prelude.{None}
 use mathlib.Core.Path.{◌≡◌, refl, sym, ap, ap₂, ◌∙◌}
 use mathlib.Core.Bool.{Bool, true, false, cond}
 use mathlib.Core.List.{List, [], ◌∷◌, ◌++◌, map}
@@ -12,7 +13,6 @@ use mir.Syntax.{w32}
 use mir.Val.{SFits}
 use borrow.Author.Tests.{lt-ltb}
 use Rattle.text.specs.Text.{bytes, Line, index_of, lines_text}
-use Rattle.text.specs.declared.Place.TheVariants.{Missing as missing}
 use Rattle.text_decimals.specs.Decimal.{decimal}
 use Rattle.text.proofs.TextLaws.{Every, none, more}
 use Rattle.numbers.specs.Numbers.{IsNumber}
@@ -111,7 +111,7 @@ module _ (ps : List (List ℕ)) (os : List Op) (few : length os ≤ 1024) where
       ap (λ w. decimal k ++ bytes " " ++ (kind_at o.kind).name ++ bytes " " ++ w ++ bytes "\n" ++ rest) (argument-made i o.kind near (kind_at o.kind).argument s.argued)
       ∙ ap₂ (λ t u. t ++ bytes "\n" ++ u) (sym s.line) (lines-made (i + size_of o.kind) ss (omega arith) (omega arith))
 
-  pub no-fault : {k : ℕ} {ls : List Line} {xs : List Op} (i : ℕ) → Said ps (length os) k ls xs → i ≤ 2 * k → k + length xs ≤ 1024 → fault_from (length ps) k (map item (items_from indices i xs)) ≡ missing
+  pub no-fault : {k : ℕ} {ls : List Line} {xs : List Op} (i : ℕ) → Said ps (length os) k ls xs → i ≤ 2 * k → k + length xs ≤ 1024 → fault_from (length ps) k (map item (items_from indices i xs)) ≡ None
   unfolding items_from fault_from
   no-fault i end h m = refl
   no-fault {k} i (next {o} {os = xs} s ss) h m =
@@ -120,7 +120,7 @@ module _ (ps : List (List ℕ)) (os : List Op) (few : length os ≤ 1024) where
       let c = call-made i o.kind near (kind_at o.kind).argument s.argued in
       rw (lt-ltb k 1024 (omega arith), c) (no-fault (i + size_of o.kind) ss (omega arith) (omega arith))
 
-  pub no-offset-fault : {k : ℕ} {ls : List Line} {xs : List Op} (i : ℕ) → Said ps (length os) k ls xs → i ≤ 2 * k → k + length xs ≤ 1024 → offset_fault exported (items_from indices i xs) ≡ missing
+  pub no-offset-fault : {k : ℕ} {ls : List Line} {xs : List Op} (i : ℕ) → Said ps (length os) k ls xs → i ≤ 2 * k → k + length xs ≤ 1024 → offset_fault exported (items_from indices i xs) ≡ None
   unfolding items_from offset_fault
   no-offset-fault i end h m = refl
   no-offset-fault {k} i (next {o} {os = xs} s ss) h m =

@@ -1,5 +1,6 @@
 -- Laws of a code line: of a passing file that begins at address 0 it is its number, its kind's name and its argument as an import
 -- writes them, and it is known by them what it says. Assumes nothing.
+use Rattle.std.specs.Prelude.{None, Option, Some}
 use mathlib.Core.Path.{◌≡◌, refl, sym, ap, ap₂, subst, ◌∙◌}
 use mathlib.Core.Bool.{Bool, true, false, cond, ◌&&◌, false≢true}
 use mathlib.Core.List.{List, [], ◌∷◌, ◌++◌, append_assoc}
@@ -11,9 +12,6 @@ use lib.Signed.{le_z, lt_z}
 use lib.ListN.{length, get_or, length-append}
 use borrow.Author.Tests.{eqb-true, leb-true, ltb-true}
 use Rattle.text.specs.Text.{bytes, Line, place_among, index_of, find, among, distinct}
-use Rattle.text.specs.declared.Place.TheVariants.{At}
-use Rattle.text_decimals.specs.declared.Numeral.{Numeral}
-use Rattle.text_decimals.specs.declared.Numeral.TheVariants.{Misspelt as misspelt, Number as number}
 use Rattle.text_decimals.specs.Decimal.{numeral, decimal, integer}
 use Rattle.text.proofs.TextLaws.{Every, none, more, every-get_d, and_left, and_right, equals-path}
 use Rattle.text_decimals.proofs.DecimalLaws.{decimal-read}
@@ -54,13 +52,13 @@ pub record Says (ps : List (List ℕ)) (n k : ℕ) (text : List ℕ) (o : Op) : 
 
 -- ---- numbers
 
-spelt : (w : List ℕ) → is_numeral (numeral w) ≡ true → numeral w ≡ number (value w)
+spelt : (w : List ℕ) → is_numeral (numeral w) ≡ true → numeral w ≡ Some (value w)
 unfolding is_numeral value value_of
 spelt w e = go (numeral w) e
   where
-    go : (x : Numeral) → is_numeral x ≡ true → x ≡ number (value_of x)
-    go misspelt h = absurd (false≢true h)
-    go (number z) h = refl
+    go : (x : Option ℤ) → is_numeral x ≡ true → x ≡ Some (value_of x)
+    go None h = absurd (false≢true h)
+    go (Some z) h = refl
 
 same-path : (x y : ℤ) → same x y ≡ true → x ≡ y
 same-path (pos m) (pos n) e = ap pos (eqb-true m n e)
@@ -94,9 +92,9 @@ module _ (ps : List (List ℕ)) (n : ℕ) (w : List ℕ) where
       rw (inside_is numbers (value w) (number-within (value w) (argument-number s (value w) b r))) (subst (λ v. Argued ps n (Within s) v (value w)) (sym e) within-range)
 
 -- the place of a kind's name, as an index
-kind-place : (w : List ℕ) → among w kind_names ≡ true → place_among w kind_names ≡ At (find w kind_names)
+kind-place : (w : List ℕ) → among w kind_names ≡ true → place_among w kind_names ≡ Some (find w kind_names)
 unfolding find
-kind-place w e = let (k, q) = kind-there w e in q ∙ ap (λ p. At (index_of p)) (sym q)
+kind-place w e = let (k, q) = kind-there w e in q ∙ ap (λ p. Some (index_of p)) (sym q)
 
 module _ (ls : List Line) (begins : first_at (body ls) ≡ pos 0) (k : ℕ) (l : Line) where
   begins-at : first_address (body ls) ≡ 0
@@ -180,7 +178,7 @@ pub record LowerLine (ps : List (List ℕ)) (n k first : ℕ) (text : List ℕ) 
   pub name : (kind_at (op_of ps first text).kind).name ≡ op text
   pub back : (kind_at (op_of ps first text).kind).argument ≡ Target → (u : ℕ) × ((op_of ps first text).value ≡ pos u) × (argument_value ps (arg text) Target ≡ pos (u + first))
   pub few : k < 1024
-  pub placed : place_among (op text) kind_names ≡ At (op_of ps first text).kind
+  pub placed : place_among (op text) kind_names ≡ Some (op_of ps first text).kind
   pub lowers : LowerWord first (kind_at (op_of ps first text).kind).argument (arg text) says.word
   pub short : length line ≤ length text
 
@@ -290,7 +288,7 @@ argued-free c m h f (target {t} k) = decimal-free c h t
 argued-free c m h f (primitive {i} k) = every-get_d f none i
 argued-free c m h f (within-range {z}) = integer-free c m h z
 
-numbers-same : (x y : ℤ) → number x ≡ number y → x ≡ y
+numbers-same : (x y : ℤ) → Some x ≡ Some y → x ≡ y
 numbers-same x y e = cc
 
 module _ (ps : List (List ℕ)) (unlike : distinct ps ≡ true) (n : ℕ) where

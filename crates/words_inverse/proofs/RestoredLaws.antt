@@ -1,5 +1,6 @@
 -- Laws of an import that is exported: of a passing file whose section of the code is what an import made, with the same primitives, the
 -- words are those that were imported. Assumes nothing.
+use Rattle.std.specs.Prelude.{None, Ok, Some}
 use mathlib.Core.Path.{◌≡◌, refl, sym, ap, ap₂, subst, ◌∙◌}
 use mathlib.Core.Bool.{Bool, true, false, cond}
 use mathlib.Core.List.{List, [], ◌∷◌, ◌++◌, append_assoc, map}
@@ -8,9 +9,7 @@ use native.Mathlib.Omega.{arith}
 use lib.Dec.{ltb}
 use lib.IntN.{pos}
 use lib.ListN.{length, get_or, take, drop, length-map}
-use Rattle.refusals.specs.declared.Acceptance.TheVariants.{Accepted as accepted}
 use Rattle.text.specs.Text.{bytes, parted_by, line_words, Line, no_line, lines, all, distinct, lines_text}
-use Rattle.text.specs.declared.Place.TheVariants.{At as at, Missing as missing}
 use Rattle.text_decimals.specs.Decimal.{numeral, decimal}
 use Rattle.text.proofs.TextLaws.{Every, none, more, and_right}
 use Rattle.text.proofs.LineLaws.{ended_line}
@@ -44,31 +43,31 @@ use Rattle.words_inverse.proofs.WrittenLaws.{op_said, Sound, rows, written-text,
 
 -- ---- instructions without a fault
 
-sound-of : (n : ℕ) (ws : List Word) → word_fault n ws ≡ missing → fault_from n 0 (decoded ws) ≡ missing
+sound-of : (n : ℕ) (ws : List Word) → word_fault n ws ≡ None → fault_from n 0 (decoded ws) ≡ None
 unfolding word_fault
 sound-of n [] e = faulty 0 e
 sound-of n (w ∷ ws) e = e
 
-calls-listed : (n c : ℕ) (es : List Decoded) → fault_from n c es ≡ missing → Every (λ x. call_listed n x.argument (kind_at x.kind).argument ≡ true) (items es)
+calls-listed : (n c : ℕ) (es : List Decoded) → fault_from n c es ≡ None → Every (λ x. call_listed n x.argument (kind_at x.kind).argument ≡ true) (items es)
 unfolding items fault_from
 calls-listed n c [] e = none
 calls-listed n c (unreadable i ∷ es) e = faulty i e
 calls-listed n c (item x ∷ es) e = go (ltb c 1024) (call_listed n x.argument (kind_at x.kind).argument) refl e (calls-listed n (suc c) es)
   where
-    go : (b d : Bool) → call_listed n x.argument (kind_at x.kind).argument ≡ d → cond b (cond d (fault_from n (suc c) es) (at (suc x.index))) (at x.index) ≡ missing
-        → (fault_from n (suc c) es ≡ missing → Every (λ y. call_listed n y.argument (kind_at y.kind).argument ≡ true) (items es))
+    go : (b d : Bool) → call_listed n x.argument (kind_at x.kind).argument ≡ d → cond b (cond d (fault_from n (suc c) es) (Some (suc x.index))) (Some x.index) ≡ None
+        → (fault_from n (suc c) es ≡ None → Every (λ y. call_listed n y.argument (kind_at y.kind).argument ≡ true) (items es))
         → Every (λ y. call_listed n y.argument (kind_at y.kind).argument ≡ true) (x ∷ items es)
     go true true q f ih = more q (ih f)
     go true false q f ih = faulty (suc x.index) f
     go false d q f ih = faulty x.index f
 
-offsets-land : (xs ys : List Item) → offset_fault xs ys ≡ missing → Every (λ y. lands xs y (kind_at y.kind).argument ≡ true) ys
+offsets-land : (xs ys : List Item) → offset_fault xs ys ≡ None → Every (λ y. lands xs y (kind_at y.kind).argument ≡ true) ys
 unfolding offset_fault
 offsets-land xs [] e = none
 offsets-land xs (y ∷ ys) e = go (lands xs y (kind_at y.kind).argument) refl e (offsets-land xs ys)
   where
-    go : (b : Bool) → lands xs y (kind_at y.kind).argument ≡ b → cond b (offset_fault xs ys) (at (suc y.index)) ≡ missing
-        → (offset_fault xs ys ≡ missing → Every (λ x. lands xs x (kind_at x.kind).argument ≡ true) ys) → Every (λ x. lands xs x (kind_at x.kind).argument ≡ true) (y ∷ ys)
+    go : (b : Bool) → lands xs y (kind_at y.kind).argument ≡ b → cond b (offset_fault xs ys) (Some (suc y.index)) ≡ None
+        → (offset_fault xs ys ≡ None → Every (λ x. lands xs x (kind_at x.kind).argument ≡ true) ys) → Every (λ x. lands xs x (kind_at x.kind).argument ≡ true) (y ∷ ys)
     go true q f ih = more q (ih f)
     go false q f ih = faulty (suc y.index) f
 
@@ -113,7 +112,7 @@ first_said (next {o} s ss) h =
 
 -- ---- the words again
 
-module _ (bs line text : List ℕ) (small : Every (λ b. b < 256) bs) (ok : import_verdict bs line ≡ accepted) (p : Passes (lines text))
+module _ (bs line text : List ℕ) (small : Every (λ b. b < 256) bs) (ok : import_verdict bs line ≡ Ok tt) (p : Passes (lines text))
     (same : listed (names primitives) (lines text) ≡ primitives_of line) (made : code_section (lines text) ≡ import_text bs line) where
   abbrev ls : List Line
   ls = lines text
@@ -124,7 +123,7 @@ module _ (bs line text : List ℕ) (small : Every (λ b. b < 256) bs) (ok : impo
   abbrev xs : List Item
   xs = items (decoded (words_of bs))
 
-  sound : fault_from (length (primitives_of line)) 0 (decoded (words_of bs)) ≡ missing
+  sound : fault_from (length (primitives_of line)) 0 (decoded (words_of bs)) ≡ None
   sound = sound-of (length (primitives_of line)) (words_of bs) (import-words bs line ok)
 
   placed-all : Placed 0 xs

@@ -1,4 +1,5 @@
 -- Laws of an import's lines: each says its instruction, and what is exported of them are the instructions again. Assumes nothing.
+use Rattle.std.specs.Prelude.{None, Option, Some}
 use mathlib.Core.Path.{◌≡◌, refl, sym, ap, ap₂, subst, ◌∙◌}
 use mathlib.Core.Bool.{true, false, false≢true}
 use mathlib.Core.List.{List, [], ◌∷◌, ◌++◌, map}
@@ -8,8 +9,6 @@ use lib.IntN.{ℤ, pos, negsuc, nat_abs, ◌+ℤ◌, ◌-ℤ◌, +ℤ_comm, +ℤ
 use lib.ListN.{length, get_or, length-map}
 use borrow.Author.Tests.{ltb-true}
 use Rattle.text.specs.Text.{bytes, Line, index_of, all, lines_text}
-use Rattle.text.specs.declared.Place.{Place}
-use Rattle.text.specs.declared.Place.TheVariants.{At as at, Missing as missing}
 use Rattle.text_decimals.specs.Decimal.{decimal}
 use Rattle.text.proofs.TextLaws.{Every, none, more, every_append}
 use Rattle.text.proofs.LineLaws.{ended_line}
@@ -43,7 +42,7 @@ module _ (xs : List Item) where
   abbrev indices : List ℕ
   indices = map (λ x. x.index) xs
 
-  number-found : (z : ℤ) (t : ℕ) → number_at xs z ≡ at t → (t < length xs) × (pos (get_or indices t 0) ≡ z)
+  number-found : (z : ℤ) (t : ℕ) → number_at xs z ≡ Some t → (t < length xs) × (pos (get_or indices t 0) ≡ z)
   unfolding number_at
   number-found (pos m) t e =
       let f = place_found 0 m t indices e in
@@ -60,9 +59,9 @@ module _ (xs : List Item) where
     argument-written x Absent c l = absent
     argument-written x Target c l = go (number_at xs (landing x)) refl l
       where
-        go : (p : Place) → number_at xs (landing x) ≡ p → is_found p ≡ true → Argued ps (length xs) Target (decimal (index_of p)) (pos (index_of p))
-        go (at t) e f = target (number-found (landing x) t e).0
-        go missing e f = absurd (false≢true f)
+        go : (p : Option ℕ) → number_at xs (landing x) ≡ p → is_found p ≡ true → Argued ps (length xs) Target (decimal (index_of p)) (pos (index_of p))
+        go (Some t) e f = target (number-found (landing x) t e).0
+        go None e f = absurd (false≢true f)
     argument-written x Primitive c l = go x.argument c
       where
         go : (z : ℤ) → is_place (length ps) z ≡ true → Argued ps (length xs) Primitive (get_or ps (nat_abs z) []) z
@@ -131,7 +130,7 @@ module _ (xs : List Item) where
   positions-are (with-word {i} h t n p) = ap (λ js. i ∷ js) (positions-are p)
   positions-are (plain {i} h t p) = ap (λ js. i ∷ js) (positions-are p)
 
-  offset-again : (i : ℕ) (z : ℤ) (t : ℕ) → number_at xs (pos (suc i) +ℤ z) ≡ at t → pos (get_or indices t 0) -ℤ pos (suc i) ≡ z
+  offset-again : (i : ℕ) (z : ℤ) (t : ℕ) → number_at xs (pos (suc i) +ℤ z) ≡ Some t → pos (get_or indices t 0) -ℤ pos (suc i) ≡ z
   offset-again i z t e =
       ap (λ y. y -ℤ pos (suc i)) ((number-found (pos (suc i) +ℤ z) t e).1 ∙ +ℤ_comm (pos (suc i)) z) ∙ +ℤ-neg_ℤ_cancel z (pos (suc i))
 
@@ -140,9 +139,9 @@ module _ (xs : List Item) where
   word-again i k z Absent h l = absurd (false≢true h)
   word-again i k z Target h l = go (number_at xs (pos (suc i) +ℤ z)) refl l
     where
-      go : (p : Place) → number_at xs (pos (suc i) +ℤ z) ≡ p → is_found p ≡ true → pos (get_or indices (index_of p) 0) -ℤ pos (suc i) ≡ z
-      go (at t) e f = offset-again i z t e
-      go missing e f = absurd (false≢true f)
+      go : (p : Option ℕ) → number_at xs (pos (suc i) +ℤ z) ≡ p → is_found p ≡ true → pos (get_or indices (index_of p) 0) -ℤ pos (suc i) ≡ z
+      go (Some t) e f = offset-again i z t e
+      go None e f = absurd (false≢true f)
   word-again i k z Primitive h l = refl
   word-again i k z (Within r) h l = refl
 

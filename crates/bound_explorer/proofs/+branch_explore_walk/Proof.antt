@@ -1,5 +1,6 @@
 -- `explore`, `walk` and `branch` meet their contracts: a branch has one opening less for each of its ways, and the loop goes on with a
 -- smaller budget. Assumes nothing.
+use Rattle.std.specs.Prelude.{Err, Ok, Result, ⊤}
 use Prim.Native.Nat.{ℕ, ◌+◌, ◌-◌, ◌*◌, ◌≤◌, ◌<◌}
 use borrow.Fn.Kinds.{In}
 use borrow.Fn.PlainCycle.{Measures, is, falls, and}
@@ -48,10 +49,7 @@ use mir.Val.{SFits}
 use mir.ValLaws.{to_z-of_z}
 use borrow.Author.Rules.{rules}
 use Rattle.refusals.specs.declared.Refusal.{Refusal}
-use Rattle.refusals.specs.declared.Acceptance.{Acceptance}
-use Rattle.refusals.specs.declared.Acceptance.TheVariants.{Accepted, Refused}
 use Rattle.cells.specs.Try.{Try, done}
-use Rattle.cells.specs.HeldAnswers.{of_operand}
 use Rattle.cells.specs.declared.Cell.{Cell}
 use Rattle.cells.specs.Cells.{unknown, range}
 use Rattle.machine.specs.Machine.{index, fetch, jump, advance}
@@ -189,8 +187,8 @@ abbrev forked : {t : ℕ} → Forked t → State
 forked s = with_stack s.args.registers s.args.stack
 
 -- an answer is not both
-clash : (v : Acceptance) (x : Refusal) → v ≡ Accepted → v ≡ Refused x → ⊥
-clash v x e f = let g : Accepted ≡ Refused x = sym e ∙ f in let z : ◌≡◌ {A = ℕ} 0 1 = cc in omega arith
+clash : (v : Result ⊤ Refusal) (x : Refusal) → v ≡ Ok tt → v ≡ Err x → ⊥
+clash v x e f = let g : Ok tt ≡ Err x = sym e ∙ f in let z : ◌≡◌ {A = ℕ} 0 1 = cc in omega arith
 
 branch-fitting : (t : ℕ) (s : Forked t) → SFits w32 s.args.line.operand
 branch-fitting t s = search rules
@@ -229,11 +227,11 @@ branch-explore-requires t c κs =
     let s : Forked t = c.before.before.before in
     (omega (arith, c.if-openings-eq0.false, s.requires.0), (s.requires.1.0, record { formed = c.advance-state.ensures.1; budget_fits = s.requires.1.1.0.budget_fits; openings_fit = omega (arith, s.requires.1.1.0.openings_fit) }))
 
-branch-returns-2 : (t : ℕ) → branch-lts.Need-returns-in-Refused (branch-claims t) (branch-at t) branch.Post
+branch-returns-2 : (t : ℕ) → branch-lts.Need-returns-in-Err (branch-claims t) (branch-at t) branch.Post
 branch-returns-2 t c =
     let s : Forked t = c.before.before.before.before.before.before in
     let x = c.explore-untaken in
-    let refuses = c.in-Refused.is in
+    let refuses = c.in-Err.is in
     record {
       over = λ z. absurd (c.if-openings-eq0.false z);
       first = λ z. explores-at _ _ _ _ _ _ _ _ (next-is (forked s) c.advance-state.result (c.advance-state.ensures.0 ∙ ap (λ x. advance (view x)) c.of.ensures)) x.ensures.0;
@@ -299,7 +297,7 @@ abbrev Body : ℕ → Type 0
 Body t = walk-lts.In-loop-tally (walk-claims t) (walk_at t) walk.Post invariant-loop-tally decreases-loop-tally
 
 abbrev Lined : ℕ → Type 0
-Lined t = walk-lts.In-Is (walk-claims t) (walk_at t) walk.Post invariant-loop-tally decreases-loop-tally
+Lined t = walk-lts.In-Some (walk-claims t) (walk_at t) walk.Post invariant-loop-tally decreases-loop-tally
 
 abbrev Joined : ℕ → Type 0
 Joined t = walk-lts.Joined-line (walk-claims t) (walk_at t) walk.Post invariant-loop-tally decreases-loop-tally
@@ -317,7 +315,7 @@ abbrev body : {t : ℕ} → Lined t → Body t
 body k = k.before.before
 
 abbrev line : {t : ℕ} → Lined t → Line
-line k = k.in-Is.line
+line k = k.in-Some.line
 
 abbrev lined : {t : ℕ} → Joined t → Lined t
 lined j = j.before.before.before
@@ -351,10 +349,10 @@ module _ (t : ℕ) (b : Body t) where
 
 module _ (t : ℕ) (k : Lined t) where
   there : (fetch (program_of (entry (begun (body k))).args.code.now) (body k).loop-tally.registers.at ≡ done (line_of (line k))) × ((line k).pushes ≡ true → 0 < (body k).loop-tally.registers.free)
-  there = line-there _ _ _ (ap of_fetched (sym k.in-Is.is) ∙ k.reachable.ensures.0)
+  there = line-there _ _ _ (ap of_fetched (sym k.in-Some.is) ∙ k.reachable.ensures.0)
 
   known : (line k).code ≤ 22
-  known = subst Known k.in-Is.is k.reachable.ensures.1
+  known = subst Known k.in-Some.is k.reachable.ensures.1
 
   small : ((line k).cycles < 4294967296) × (((line k).words < 4294967296) × ((line k).extra < 4294967296))
   small = search rules
@@ -589,27 +587,27 @@ walk-combined-requires t c κs =
 walk-pop-requires : (t : ℕ) → walk-lts.Need-pop-requires (walk-claims t) (walk_at t) walk.Post invariant-loop-tally decreases-loop-tally
 walk-pop-requires t c κs = (combine-place (arm t c.before.before.before.before.before) c.in-Combines.is).0
 
-walk-advance-requires-3 : (t : ℕ) → walk-lts.Need-advance-registers-requires-in-Is-combined (walk-claims t) (walk_at t) walk.Post invariant-loop-tally decreases-loop-tally
+walk-advance-requires-3 : (t : ℕ) → walk-lts.Need-advance-registers-requires-in-Some-combined (walk-claims t) (walk_at t) walk.Post invariant-loop-tally decreases-loop-tally
 walk-advance-requires-3 t c κs =
     let a : Acted t = c.before.before.before.before.before.before.before in
-    let f : c.load-in-Is-combined.result.at ≡ (joined a).if-line.registers.at = ap (λ r. r.at) (c.load-in-Is-combined.ensures ∙ ap (loaded _) c.pop.ensures) in
+    let f : c.load-in-Some-combined.result.at ≡ (joined a).if-line.registers.at = ap (λ r. r.at) (c.load-in-Some-combined.ensures ∙ ap (loaded _) c.pop.ensures) in
     omega (arith, low-at t (joined a))
 
-walk-loop-less-5 : (t : ℕ) → walk-lts.Need-loop-tally-smaller-in-Is-combined (walk-claims t) (walk_at t) walk.Post invariant-loop-tally decreases-loop-tally
+walk-loop-less-5 : (t : ℕ) → walk-lts.Need-loop-tally-smaller-in-Some-combined (walk-claims t) (walk_at t) walk.Post invariant-loop-tally decreases-loop-tally
 walk-loop-less-5 t c = falling t c.before.before.before.before.before.before.before.before
 
-walk-loop-again-5 : (t : ℕ) → walk-lts.Need-loop-tally-preserved-in-Is-combined (walk-claims t) (walk_at t) walk.Post invariant-loop-tally decreases-loop-tally
+walk-loop-again-5 : (t : ℕ) → walk-lts.Need-loop-tally-preserved-in-Some-combined (walk-claims t) (walk_at t) walk.Post invariant-loop-tally decreases-loop-tally
 walk-loop-again-5 t c =
     let a : Acted t = c.before.before.before.before.before.before.before.before in
-    onward t a (combines-on (arm t a) c.in-Combines.is _ (combined-is t a _ c.combined.ensures) _ (ap of_operand c.in-Is-combined.is) _ (c.advance-registers-in-Is-combined.ensures ∙ ap advanced (c.load-in-Is-combined.ensures ∙ ap (loaded _) c.pop.ensures)))
+    onward t a (combines-on (arm t a) c.in-Combines.is _ (combined-is t a _ c.combined.ensures) _ (c.in-Some-combined.is) _ (c.advance-registers-in-Some-combined.ensures ∙ ap advanced (c.load-in-Some-combined.ensures ∙ ap (loaded _) c.pop.ensures)))
 
-walk-sub-stuck-2 : (t : ℕ) → walk-lts.Need-overflow_sub-budget-in-Stuck-combined (walk-claims t) (walk_at t) walk.Post invariant-loop-tally decreases-loop-tally
+walk-sub-stuck-2 : (t : ℕ) → walk-lts.Need-overflow_sub-budget-in-None (walk-claims t) (walk_at t) walk.Post invariant-loop-tally decreases-loop-tally
 walk-sub-stuck-2 t c = fewer t c.before.before.before.before.before.before
 
-walk-returns-2 : (t : ℕ) → walk-lts.Need-returns-in-Stuck-combined (walk-claims t) (walk_at t) walk.Post invariant-loop-tally decreases-loop-tally
+walk-returns-2 : (t : ℕ) → walk-lts.Need-returns-in-None (walk-claims t) (walk_at t) walk.Post invariant-loop-tally decreases-loop-tally
 walk-returns-2 t c =
     let a : Acted t = c.before.before.before.before.before.before.before in
-    kept t (begun (b t a)) _ (combines-nothing (arm t a) c.in-Combines.is _ (combined-is t a _ c.combined.ensures) (ap of_operand c.in-Stuck-combined.is) _ (c.stuck-in-Stuck-combined.ensures ∙ ap (refused_as _) (count t a)))
+    kept t (begun (b t a)) _ (combines-nothing (arm t a) c.in-Combines.is _ (combined-is t a _ c.combined.ensures) (c.in-None.is) _ (c.stuck-in-None.ensures ∙ ap (refused_as _) (count t a)))
 
 walk-mul-load-2 : (t : ℕ) → walk-lts.Need-offset_bounds-blocks-field (walk-claims t) (walk_at t) walk.Post invariant-loop-tally decreases-loop-tally
 walk-mul-load-2 t c =

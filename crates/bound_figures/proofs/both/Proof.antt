@@ -5,11 +5,11 @@ use Rattle.bound_figures.proofs.PartLaws.{first-refused, second-refused, both-ac
 use Rattle.bound_figures.proofs.both.Statement.{statement}
 use Rattle.bound_figures.proofs.both.Tie as tie
 
-returns : tie.Need-returns-in-Refused
-returns c = c.refused.ensures ∙ sym (first-refused _ _ _ _ _ _ c.in-Refused.is)
+returns : tie.Need-returns-in-Err
+returns c = c.refused.ensures ∙ sym (first-refused _ _ _ _ _ _ c.in-Err.is)
 
-returns-2 : tie.Need-returns-in-Refused-second
-returns-2 c = c.refused-in-Refused-second.ensures ∙ sym (second-refused _ _ _ _ _ c.in_default.is _ c.in-Refused-second.is)
+returns-2 : tie.Need-returns-in-Err-second
+returns-2 c = c.refused-in-Err-second.ensures ∙ sym (second-refused _ _ _ _ _ c.in_default.is _ c.in-Err-second.is)
 
 returns-3 : tie.Need-returns
 returns-3 c = c.joined.ensures ∙ sym (both-accepted _ _ _ _ _ c.in_default.is c.in_default-second.is)

@@ -6,7 +6,7 @@ use Rattle.bound_figures.proofs.more.Tie as tie
 
 returns : tie.Need-returns
 unfolding more_of
-returns c = simp c.larger-depth.ensures
+returns c = simp c.max-depth.ensures
 
 pub more_spec : {M : Type 1} → statement M
 more_spec = tie.close (tie.spec (λ c. search rules) (λ c. search rules) (λ c κs. search rules) (λ c. search rules) returns)

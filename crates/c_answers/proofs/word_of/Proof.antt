@@ -6,11 +6,11 @@ use borrow.Author.Rules.{rules}
 use Rattle.c_answers.proofs.word_of.Statement.{statement}
 use Rattle.c_answers.proofs.word_of.Tie as tie
 
-returns : tie.Need-returns-in-Reported
-returns c = word-reported _ _ c.in-Reported.is
+returns : tie.Need-returns-in-Ok
+returns c = word-reported _ _ c.in-Ok.is
 
-returns-2 : tie.Need-returns-in-Refused
-returns-2 c = arm word_of c.in-Refused.is c.refusal_word.ensures
+returns-2 : tie.Need-returns-in-Err
+returns-2 c = arm word_of c.in-Err.is c.refusal_word.ensures
 
 pub word_of_spec : {M : Type 1} → statement M
 word_of_spec =

@@ -11,22 +11,22 @@ put-decision-requires c κs =
     let s = c in
     let p = s.requires.0 in
     let x = c.swept-found in
-    s.requires.1 _ (merging-decides (routine_in s.args.routine) s.args.refusal p.1 p.2 x.result x.ensures.0 c.in-Accepted.is)
+    s.requires.1 _ (merging-decides (routine_in s.args.routine) s.args.refusal p.1 p.2 x.result x.ensures.0 c.in-Ok.is)
 
-returns : tie.Need-returns-in-Accepted
+returns : tie.Need-returns-in-Ok
 returns c =
     let s = c in
     let p = s.requires.0 in
     let x = c.swept-found in
     let d = c.put_decision-n.ensures in
-    gives-report _ _ (merging-decides (routine_in s.args.routine) s.args.refusal p.1 p.2 x.result x.ensures.0 c.in-Accepted.is) _ d.0 _ _ d.1
+    gives-report _ _ (merging-decides (routine_in s.args.routine) s.args.refusal p.1 p.2 x.result x.ensures.0 c.in-Ok.is) _ d.0 _ _ d.1
 
-returns-2 : tie.Need-returns-in-Refused
+returns-2 : tie.Need-returns-in-Err
 returns-2 c =
     let s = c in
     let p = s.requires.0 in
     let x = c.swept-found in
-    gives-refusal _ _ (merging-refuses (routine_in s.args.routine) s.args.refusal p.1 p.2 x.result x.ensures.0 _ c.in-Refused.is) _
+    gives-refusal _ _ (merging-refuses (routine_in s.args.routine) s.args.refusal p.1 p.2 x.result x.ensures.0 _ c.in-Err.is) _
 
 pub decide_by_merging_spec : {M : Type 1} → statement M
 decide_by_merging_spec =

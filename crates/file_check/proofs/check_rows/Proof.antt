@@ -1,8 +1,8 @@
 -- `file_check::check_rows` meets its contract: a row is due where those before it refuse no line. Assumes nothing.
+use Rattle.std.specs.Prelude.{None}
 use mathlib.Core.Path.{◌≡◌}
 use Rattle.text.specs.Text.{lines}
 use Rattle.file_format.specs.declared.Row.TheVariants.{Layout, Range, Name, Price, Target, Forward, Known}
-use Rattle.file_format.specs.declared.RefusedLine.TheVariants.{Nowhere as nowhere}
 use Rattle.file_format.specs.Rows.{refused_line, Passes}
 use Rattle.file_check.proofs.LoopLaws.{some-refused, none-refused}
 use Rattle.file_check.proofs.CheckLaws.{check-layout, check-range, check-name, check-price, check-target, check-forward, check-bound, check-known, check-run}
@@ -12,22 +12,22 @@ use Rattle.file_check.proofs.check_rows.Tie as tie
 
 -- the rows that refuse no line
 
-row-layout : (c : tie.Else-refused-gt0) → refused_line Layout (lines c.args.text.now) ≡ nowhere
+row-layout : (c : tie.Else-refused-gt0) → refused_line Layout (lines c.args.text.now) ≡ None
 row-layout c = none-refused (c.scan-refused.ensures Layout tt) c.if-refused-gt0.false
 
-row-range : (c : tie.Else-refused-gt0-2) → refused_line Range (lines c.args.text.now) ≡ nowhere
+row-range : (c : tie.Else-refused-gt0-2) → refused_line Range (lines c.args.text.now) ≡ None
 row-range c = none-refused (c.scan-refused.ensures Range (row-layout c.before.before)) c.if-refused-gt0-2.false
 
-row-name : (c : tie.Else-refused-gt0-3) → refused_line Name (lines c.args.text.now) ≡ nowhere
+row-name : (c : tie.Else-refused-gt0-3) → refused_line Name (lines c.args.text.now) ≡ None
 row-name c = none-refused (c.scan-refused.ensures Name (row-layout c.before.before.before.before, row-range c.before.before)) c.if-refused-gt0-3.false
 
-row-price : (c : tie.Else-refused-gt0-4) → refused_line Price (lines c.args.text.now) ≡ nowhere
+row-price : (c : tie.Else-refused-gt0-4) → refused_line Price (lines c.args.text.now) ≡ None
 row-price c = none-refused (c.scan-refused.ensures Price (row-layout c.before.before.before.before.before.before, row-range c.before.before.before.before, row-name c.before.before)) c.if-refused-gt0-4.false
 
-row_target : (c : tie.Else-refused-gt0-5) → refused_line Target (lines c.args.text.now) ≡ nowhere
+row_target : (c : tie.Else-refused-gt0-5) → refused_line Target (lines c.args.text.now) ≡ None
 row_target c = none-refused (c.scan-refused.ensures Target (row-layout c.before.before.before.before.before.before.before.before, row-range c.before.before.before.before.before.before, row-name c.before.before.before.before, row-price c.before.before)) c.if-refused-gt0-5.false
 
-row-forward : (c : tie.Else-refused-gt0-6) → refused_line Forward (lines c.args.text.now) ≡ nowhere
+row-forward : (c : tie.Else-refused-gt0-6) → refused_line Forward (lines c.args.text.now) ≡ None
 row-forward c = none-refused (c.scan-refused.ensures Forward (row-layout c.before.before.before.before.before.before.before.before.before.before, row-range c.before.before.before.before.before.before.before.before, row-name c.before.before.before.before.before.before, row-price c.before.before.before.before, row_target c.before.before)) c.if-refused-gt0-6.false
 
 passes : (c : tie.Else-refused-gt0-6) → Passes (lines c.args.text.now)

@@ -1,5 +1,6 @@
 -- `file_check::scan` meets its contract. The loop's invariant: for every row that is due the lines left decide as long as it refuses none, and else the
 -- line that is kept is the earliest (`Keeps`). The measure is the length of what is left. Assumes nothing.
+use Rattle.std.specs.Prelude.{None, Option, Some}
 use Prim.Native.Nat.{ℕ, ◌+◌, ◌≤◌}
 use mathlib.Core.Path.{◌≡◌, sym, ap, subst, ◌∙◌}
 use mathlib.Core.Bool.{true}
@@ -12,8 +13,6 @@ use Rattle.text.specs.Text.{lines}
 use Rattle.instructions.proofs.ColumnLaws.{kind-below}
 use Rattle.file_format.specs.declared.Row.{Row}
 use Rattle.file_format.specs.declared.Row.TheVariants.{Layout, Name, Price}
-use Rattle.file_format.specs.declared.RefusedLine.{RefusedLine}
-use Rattle.file_format.specs.declared.RefusedLine.TheVariants.{Nowhere as nowhere, Line as line}
 use Rattle.file_format.specs.Layout.{list}
 use Rattle.file_format.specs.Rows.{test, refused_line}
 use Rattle.file_code.specs.HeldCode.{PricesKept}
@@ -99,15 +98,15 @@ add-keep c = let s = small c.before.before.before.before.before in omega arith
 cast-keep : tie.Need-overflow_cast-passed invariant-loop-rest decreases-loop-rest
 cast-keep c = let s = small c.before.before.before.before.before in omega arith
 
-never : {A : Type 0} {r : RefusedLine} {n : ℕ} → r ≡ line n → r ≡ nowhere → A
+never : {A : Type 0} {r : Option ℕ} {n : ℕ} → r ≡ Some n → r ≡ None → A
 never e f = let z : ◌≡◌ {A = ℕ} 0 1 = cc in absurd (omega arith)
 
 returns : tie.Need-returns-then-kept-gt0 invariant-loop-rest decreases-loop-rest
 returns c =
     let ls = lines c.args.text.now in
-    let e : refused_line Layout ls ≡ line c.keep-more.result.layout =
+    let e : refused_line Layout ls ≡ Some c.keep-more.result.layout =
     keeps-done (c.loop-rest.invariant.3 Layout tt) c.loop-rest-test.true c.first_line-line.ensures c.line_ends-ended.ensures c.role_of-role.ensures ((tested c.before.before.before).1 Layout tt) (c.keep-more.ensures Layout) c.if-kept-gt0.true in
-    λ row d. ⊎_elim (λ (q : row ≡ Layout). subst (λ r. refused_at (kept_by r c.keep-more.result) ≡ refused_line r ls) (sym q) (refused-some e c.if-kept-gt0.true)) (λ (q : refused_line Layout ls ≡ nowhere). never e q) (due-after-layout row ls d)
+    λ row d. ⊎_elim (λ (q : row ≡ Layout). subst (λ r. refused_at (kept_by r c.keep-more.result) ≡ refused_line r ls) (sym q) (refused-some e c.if-kept-gt0.true)) (λ (q : refused_line Layout ls ≡ None). never e q) (due-after-layout row ls d)
 
 after-line-requires : tie.Need-after_line-next-requires invariant-loop-rest decreases-loop-rest
 after-line-requires c κs = ap length c.first_line-line.ensures

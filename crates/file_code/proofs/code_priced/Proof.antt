@@ -1,8 +1,8 @@
 -- `file_code::code_priced` meets its contract. Assumes nothing.
+use Rattle.std.specs.Prelude.{Some}
 use mathlib.Core.Path.{◌≡◌, refl, sym, ap, ◌∙◌}
 use mathlib.Core.Bool.{cond}
 use Rattle.text.specs.Text.{place_among}
-use Rattle.text.specs.declared.Place.TheVariants.{At}
 use Rattle.instructions.specs.Kinds.{kind_names}
 use Rattle.instructions.proofs.ColumnLaws.{kind-below}
 use Rattle.file_code.proofs.PriceLaws.{kept-known, kept_more}
@@ -11,8 +11,8 @@ use Rattle.file_code.proofs.code_priced.Statement.{statement}
 use Rattle.file_code.proofs.code_priced.Tie as tie
 
 -- OP names the kind at a place
-found : (c : tie.In-At) → place_among c.args.op.now kind_names ≡ At c.in-At.k
-found c = sym c.requires.0 ∙ c.in-At.is
+found : (c : tie.In-Some) → place_among c.args.op.now kind_names ≡ Some c.in-Some.k
+found c = sym c.requires.0 ∙ c.in-Some.is
 
 element-copy-out-known : tie.Need-bounds-kept-k
 element-copy-out-known c = kind-below _ (found c.before)

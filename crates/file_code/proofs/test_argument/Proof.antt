@@ -16,7 +16,7 @@ returns c = let e = c.in_default.is in record { layout = argument-none _ e; rang
 argument-in-range-requires : tie.Need-argument_in_range-range-requires
 argument-in-range-requires c κs =
     let k = c in
-    let p = k.requires.1.1 _ k.in-At.is in
+    let p = k.requires.1.1 _ k.in-Some.is in
     near-at _ p.0 (ap range_of p.1)
 
 returns-2 : tie.Need-returns
@@ -24,7 +24,7 @@ returns-2 c =
     let n = c in
     let k = n in
     let start = k in
-    let e = k.in-At.is in
+    let e = k.in-Some.is in
     let i = (start.requires.1.1 _ e).1 in
     let z = to_z-of_z w64 start.args.first start.ranges.first in
     let arg = start.args in

@@ -12,7 +12,7 @@ returns : tie.Need-returns-in_default
 returns c = sym (among-place 0 _ _ ∙ ap (λ r. is_found r.place) (sym c.look_up-found.ensures) ∙ ap is_found c.in_default.is)
 
 returns-2 : tie.Need-returns
-returns-2 c = sym (among-place 0 _ _ ∙ ap (λ r. is_found r.place) (sym c.look_up-found.ensures) ∙ ap is_found c.in-At.is)
+returns-2 c = sym (among-place 0 _ _ ∙ ap (λ r. is_found r.place) (sym c.look_up-found.ensures) ∙ ap is_found c.in-Some.is)
 
 pub is_listed_spec : {M : Type 1} → statement M
 is_listed_spec = tie.close (tie.spec (λ c κs. search rules) enum_told (λ c. search rules) returns returns-2)

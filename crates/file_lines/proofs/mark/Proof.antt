@@ -13,15 +13,15 @@ returns c =
     (sym (ap (is_new seen) e), sym (ap (marked seen) e))
 
 element-copy-out-before : tie.Need-bounds-seen-k
-element-copy-out-before c = c.requires _ c.in-At.is
+element-copy-out-before c = c.requires _ c.in-Some.is
 
 element-write-seen : tie.Need-bounds-seen-k-2
-element-write-seen c = c.requires _ c.in-At.is
+element-write-seen c = c.requires _ c.in-Some.is
 
 returns-2 : tie.Need-returns
 unfolding is_new marked
 returns-2 c =
-    let e = c.in-At.is in
+    let e = c.in-Some.is in
     let seen = c.args.seen.now in
     (sym (ap (is_new seen) e), sym (ap (marked seen) e))
 

@@ -1,5 +1,6 @@
 -- `instructions::argument_in` meets its contract: an argument is known by its code and its range, which the lent tables hold.
 -- Assumes nothing.
+use Rattle.std.specs.Prelude.{Some}
 use Prim.Native.Nat.{ℕ, ◌<◌}
 use mathlib.Core.Path.{◌≡◌, refl, sym, ap, ◌∙◌}
 use native.Mathlib.Omega.{arith}
@@ -7,7 +8,6 @@ use lib.IntN.{pos}
 use lib.ListN.{get_or}
 use mir.Syntax.{w64}
 use mir.Val.{of_z, to_z}
-use Rattle.text.specs.declared.Place.TheVariants.{At}
 use Rattle.instructions.specs.declared.Argument.{Argument}
 use Rattle.instructions.specs.HeldColumns.{argument_code, range_of}
 use Rattle.instructions.specs.Kinds.{kinds, kind_at}
@@ -20,19 +20,19 @@ returns : tie.Need-returns-in_default
 returns c = λ k e. let z : ◌≡◌ {A = ℕ} 0 1 = cc in absurd (omega arith)
 
 -- the kind's place
-below : (c : tie.In-At) → c.in-At.k < 61
-below c = c.requires.1 _ c.in-At.is
+below : (c : tie.In-Some) → c.in-Some.k < 61
+below c = c.requires.1 _ c.in-Some.is
 
 -- the argument of the kind at the place is that of the place
-there : (c : tie.In-At) {r : Argument} → r ≡ (kind_at c.in-At.k).argument → (k : ℕ) → c.args.kind ≡ At k → r ≡ (kind_at k).argument
-there c e k q = e ∙ ap (λ i. (kind_at i).argument) (one_place c.in-At.is q)
+there : (c : tie.In-Some) {r : Argument} → r ≡ (kind_at c.in-Some.k).argument → (k : ℕ) → c.args.kind ≡ Some k → r ≡ (kind_at k).argument
+there c e k q = e ∙ ap (λ i. (kind_at i).argument) (one_place c.in-Some.is q)
 
 -- what the table of codes holds for it
-coded : (c : tie.In-At) → get_or c.args.codes.now c.in-At.k 0 ≡ argument_code (kind_at c.in-At.k).argument
+coded : (c : tie.In-Some) → get_or c.args.codes.now c.in-Some.k 0 ≡ argument_code (kind_at c.in-Some.k).argument
 coded c = c.requires.0.0.at_kind _ (below c)
 
 -- and what those of the ends hold, as it is read
-ends : (c : tie.In-At) → record { low = to_z w64 (of_z w64 (get_or c.args.lows.now c.in-At.k (pos 0))); high = to_z w64 (of_z w64 (get_or c.args.highs.now c.in-At.k (pos 0))) } ≡ range_of (kind_at c.in-At.k).argument
+ends : (c : tie.In-Some) → record { low = to_z w64 (of_z w64 (get_or c.args.lows.now c.in-Some.k (pos 0))); high = to_z w64 (of_z w64 (get_or c.args.highs.now c.in-Some.k (pos 0))) } ≡ range_of (kind_at c.in-Some.k).argument
 unfolding kinds range_of
 ends c =
     let s = c.requires.0 in
@@ -70,7 +70,7 @@ returns-5 : tie.Need-returns-in_default-codes
 returns-5 c =
     let t = c in
     let e = coded t.before.before.before in
-    there t.before.before.before (decoded-is 3 _ (omega (arith, code-bound (kind_at t.in-At.k).argument, c.in_default-codes.in_default-codes-own.rest.1, c.in_default-codes.in_default-codes-own.rest.0.1, c.in_default-codes.in_default-codes-own.rest.0.0.1)))
+    there t.before.before.before (decoded-is 3 _ (omega (arith, code-bound (kind_at t.in-Some.k).argument, c.in_default-codes.in_default-codes-own.rest.1, c.in_default-codes.in_default-codes-own.rest.0.1, c.in_default-codes.in_default-codes-own.rest.0.0.1)))
 
 pub argument_in_spec : {M : Type 1} → statement M
 argument_in_spec =

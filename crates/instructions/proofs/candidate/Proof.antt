@@ -12,7 +12,7 @@ returns c =
     let key = c.name_key-key in
     let t = c.args.keyed.now in
     let p = c.requires.0 in
-    (subst (λ n. n < 61) (sym c.wide.ensures.0) (p.low key.result), λ k h e. c.wide.ensures.0 ∙ ap (λ i. get_or t i 0) (key.ensures ∙ ap name_key e) ∙ p.at_key k h)
+    (subst (λ n. n < 61) (sym c.from.ensures) (p.low key.result), λ k h e. c.from.ensures ∙ ap (λ i. get_or t i 0) (key.ensures ∙ ap name_key e) ∙ p.at_key k h)
 
 pub candidate_spec : {M : Type 1} → statement M
 candidate_spec = tie.close (tie.spec (λ c κs. search rules) (λ c. search rules) (λ c κs. search rules) returns)

@@ -9,8 +9,8 @@ use Rattle.instructions.proofs.name_key.Tie as tie
 returns : tie.Need-returns
 returns c =
     let w = c.args.w.now in
-    ap₂ (λ a b. (a + b + 5 * c.wide-last.result + 9 * length w) % 256) c.wide-first.ensures.0 c.wide-second.ensures.0
-    ∙ ap (λ l. (get_or w 0 0 + get_or w 1 0 + 5 * l + 9 * length w) % 256) c.wide-last.ensures.0
+    ap₂ (λ a b. (a + b + 5 * c.from-last.result + 9 * length w) % 256) c.from-first.ensures c.from-second.ensures
+    ∙ ap (λ l. (get_or w 0 0 + get_or w 1 0 + 5 * l + 9 * length w) % 256) c.from-last.ensures
 
 pub name_key_spec : {M : Type 1} → statement M
 name_key_spec =

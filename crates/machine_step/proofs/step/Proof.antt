@@ -40,11 +40,11 @@ use Rattle.machine_step.proofs.step.Tie as tie
 
 -- ---- places, and what is known there
 
-abbrev start : tie.In-Is → tie.Start
+abbrev start : tie.In-Some → tie.Start
 start k = k.before.before
 
-abbrev line : tie.In-Is → Line
-line k = k.in-Is.line
+abbrev line : tie.In-Some → Line
+line k = k.in-Some.line
 
 -- before the prices are made
 abbrev settled : tie.After-effect_of → tie.After-entry_place-place
@@ -53,7 +53,7 @@ settled a = a.before.before.before.before.before
 abbrev joined : tie.After-effect_of → tie.Joined-line
 joined a = (settled a).before.before.before
 
-abbrev lined : tie.After-effect_of → tie.In-Is
+abbrev lined : tie.After-effect_of → tie.In-Some
 lined a = (joined a).before
 
 abbrev code : tie.Start → Code
@@ -68,14 +68,14 @@ Meets s r =
     (of_next r.next (whole (sizes s) r.blocks r.state) ≡ step (code s) s.args.answer (whole (sizes s) s.args.blocks s.args.state))
     × ((r.calls ≡ takes_answer (code s) (whole (sizes s) s.args.blocks s.args.state)) × ((WellFormed r.state × Small r.next) × Differs r.change s.args.blocks r.blocks))
 
-found : (k : tie.In-Is) → done (line_of (line k)) ≡ fetch (code (start k)) (start k).args.state.at
-found k = ap of_fetched (sym k.in-Is.is) ∙ k.fetch.ensures.0
+found : (k : tie.In-Some) → done (line_of (line k)) ≡ fetch (code (start k)) (start k).args.state.at
+found k = ap of_fetched (sym k.in-Some.is) ∙ k.fetch.ensures.0
 
-known : (k : tie.In-Is) → (line k).code ≤ 22
-known k = subst Known k.in-Is.is k.fetch.ensures.1
+known : (k : tie.In-Some) → (line k).code ≤ 22
+known k = subst Known k.in-Some.is k.fetch.ensures.1
 
 -- the code's address is low
-low : (k : tie.In-Is) → (start k).args.state.at < 65536
+low : (k : tie.In-Some) → (start k).args.state.at < 65536
 low k = let s = start k in omega (arith, fetch-within s.args.code.now s.args.state.at (line_of (line k)) (sym (found k)), s.requires.0.addresses)
 
 fields : (s : tie.Start) → length s.args.blocks ≡ 128

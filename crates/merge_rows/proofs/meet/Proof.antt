@@ -33,7 +33,7 @@ returns-2 c =
     let m = at-merge-states.merge_states in
     let n : length m.new.row ≡ 197 = omega arith in
     λ x y.
-    row-met _ x a.row.now m.new.row a.came.now _ _ _ n m.ensures.1 start.requires.3 at-larger.larger-cycles.ensures c.larger-words.ensures
+    row-met _ x a.row.now m.new.row a.came.now _ _ _ n m.ensures.1 start.requires.3 at-larger.max-cycles.ensures c.max-words.ensures
     (ap (λ (b : Bool). of_states (sizes_of start.args.code.now) x b m.new.row) (sym (at-if1.if-not-merge_states.false)) ∙ m.ensures.0 x y)
 
 pub meet_spec : {M : Type 1} → statement M

@@ -55,7 +55,7 @@ returns-2 c =
     (λ x y. accus-unlike (ns u.before.before.before.before.before) x y (row u.before.before.before.before.before) (came u.before.before.before.before.before) e, refl)
 
 -- the accumulators are merged, and the heights are one
-module _ (c : tie.In-Is) where
+module _ (c : tie.In-Some) where
   abbrev numbers : tie.After-merge_numbers-merged
   numbers = c.before
 
@@ -63,11 +63,11 @@ module _ (c : tie.In-Is) where
   u = numbers.before.before.before.before
 
   abbrev x : ℕ
-  x = c.in-Is.accu
+  x = c.in-Some.accu
 
   accu : done (decoded_cell x) ≡ merge_cells (decoded_cell (get_or (row u) 4 0)) (decoded_cell (get_or (came u) 4 0))
   unfolding of_merged
-  accu = ap of_merged (sym c.in-Is.is) ∙ numbers.merge_numbers-merged.ensures
+  accu = ap of_merged (sym c.in-Some.is) ∙ numbers.merge_numbers-merged.ensures
 
   height : f u ≡ unused_of (get_or (came u) 1 0)
   height = numbers.if-free-other.false ∙ u.unused-other.ensures
@@ -77,7 +77,7 @@ module _ (c : tie.In-Is) where
 
 -- the entries are merged, or not
 module _ (m : tie.After-merge_cells) where
-  abbrev k : tie.In-Is
+  abbrev k : tie.In-Some
   k = m.before.before.before
 
   abbrev p : List ℕ

@@ -16,7 +16,6 @@ use Rattle.machine_state.specs.HeldState.{whole}
 use Rattle.bound_theory.specs.Tree.{refused}
 use Rattle.machine_step.specs.declared.Price as code
 use Rattle.machine_step.specs.declared.Next as leads-to
-use Rattle.machine_step.specs.declared.Next.TheVariants as leads
 use Rattle.machine_step.specs.HeldStep.{of_price, Small}
 use Rattle.merge_theory.specs.Merge.{arrive, reach, finish}
 use Rattle.merge_way.specs.Way.{Origins, marked}

@@ -8,7 +8,7 @@ use Rattle.cells.specs.Try.{done}
 use Rattle.machine_state.specs.HeldProgram.{sizes_of}
 use Rattle.machine_state.specs.HeldState.{whole}
 use Rattle.nearest_changes.specs.Changes.{number_at}
-use Rattle.nearest_changes.specs.Held.{of_single, shift}
+use Rattle.nearest_changes.specs.Held.{shift}
 use Rattle.nearest_changes.proofs.TrialLaws.{cast_fits, cast_is, trial-none, trial-out, trial-in}
 use borrow.Author.Rules.{rules}
 use Rattle.nearest_changes.proofs.trial_at.Statement.{statement}
@@ -17,25 +17,25 @@ use Rattle.nearest_changes.proofs.trial_at.Tie as tie
 returns : tie.Need-returns-in_default
 returns c =
     let s = c in
-    trial-none _ s.args.j _ c.position_of-p.ensures (sym (ap of_single c.in_default.is) ∙ c.number_at-held.ensures)
+    trial-none _ s.args.j _ c.position_of-p.ensures (sym c.in_default.is ∙ c.number_at-held.ensures)
 
 -- the place that was found
-abbrev placed : tie.In-Number → tie.After-position_of-p
+abbrev placed : tie.In-Some → tie.After-position_of-p
 placed c = c.before.before
 
 -- the number that the cell holds, and what it is changed to
-holds : (c : tie.In-Number) →
+holds : (c : tie.In-Some) →
     let q = placed c in
     let s = q in
-    done c.in-Number.n ≡ number_at q.position_of-p.result (whole (sizes_of s.args.code.now) s.args.blocks s.args.start)
-holds c = sym (ap of_single c.in-Number.is) ∙ c.number_at-held.ensures
+    done c.in-Some.n ≡ number_at q.position_of-p.result (whole (sizes_of s.args.code.now) s.args.blocks s.args.start)
+holds c = sym (c.in-Some.is) ∙ c.number_at-held.ensures
 
 changed : (c : tie.After-shifted-v) →
     let j = (placed c.before).args.j in
-    c.shifted-v.result ≡ shift (j % 2) (j / 2 / 193 + 1) c.in-Number.n
+    c.shifted-v.result ≡ shift (j % 2) (j / 2 / 193 + 1) c.in-Some.n
 changed c =
     let j = (placed c.before).args.j in
-    c.shifted-v.ensures ∙ ap (shift (j % 2) (j / 2 / 193 + 1)) (to_z-of_z w32 c.in-Number.n (search rules))
+    c.shifted-v.ensures ∙ ap (shift (j % 2) (j / 2 / 193 + 1)) (to_z-of_z w32 c.in-Some.n (search rules))
 
 -- the test is that of the range
 tested : (c : tie.After-within) → within numbers c.shifted-v.result ≡ c.within.result

@@ -6,7 +6,6 @@ use Rattle.machine_state.specs.HeldState.{whole}
 use Rattle.bound_theory.specs.Tree.{bound}
 use Rattle.nearest_changes.specs.Places.{replace_at}
 use Rattle.nearest_changes.specs.Changes.{number_at}
-use Rattle.nearest_changes.specs.Held.{of_single}
 use Rattle.nearest_changes.proofs.CellLaws.{number-present}
 use Rattle.nearest_search.specs.Search.{moved}
 use Rattle.nearest_search.proofs.SearchLaws.{read_none, read_some}
@@ -20,13 +19,13 @@ number-at-requires c κs = let s = c in (s.requires.formed, s.requires.explorabl
 returns : tie.Need-returns-in_default
 returns c =
     let s = c in
-    read_none _ s.args.budget s.args.figure _ s.args.p (sym (ap of_single c.in_default.is) ∙ c.number_at-held.ensures)
+    read_none _ s.args.budget s.args.figure _ s.args.p (sym c.in_default.is ∙ c.number_at-held.ensures)
 
 -- the number that the cell holds
-holds : (c : tie.In-Number) →
+holds : (c : tie.In-Some) →
     let s = c in
-    done c.in-Number.field-0 ≡ number_at s.args.p (whole (sizes_of s.args.code.now) s.args.blocks s.args.start)
-holds c = sym (ap of_single c.in-Number.is) ∙ c.number_at-held.ensures
+    done c.in-Some.field-0 ≡ number_at s.args.p (whole (sizes_of s.args.code.now) s.args.blocks s.args.start)
+holds c = sym (c.in-Some.is) ∙ c.number_at-held.ensures
 
 is-moved-by-requires : tie.Need-is_moved_by-requires
 is-moved-by-requires c κs = let s = c in (s.requires, number-present s.args.p _ _ (sym (holds c.before)))

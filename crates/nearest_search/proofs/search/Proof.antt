@@ -1,10 +1,9 @@
 -- `nearest_search::search` meets its contract. Assumes nothing.
-use mathlib.Core.Path.{refl, sym, ap, ◌∙◌}
+use mathlib.Core.Path.{refl, sym, ◌∙◌}
 use Rattle.machine_state.specs.HeldProgram.{program_of, sizes_of}
 use Rattle.machine_state.specs.HeldState.{whole}
 use Rattle.bound_theory.specs.Tree.{bound}
 use Rattle.bound_figures.specs.HeldFigures.{Shows}
-use Rattle.nearest_search.specs.Held.{of_hit}
 use Rattle.nearest_search.proofs.SearchLaws.{shows-bound, reported, searched, search-refused}
 use borrow.Author.Rules.{rules}
 use Rattle.nearest_search.proofs.search.Statement.{statement}
@@ -19,27 +18,27 @@ shown : (c : tie.After-explore-found) →
     Shows c.explore-found.result (bound (program_of s.args.code.now) s.args.budget (whole (sizes_of s.args.code.now) s.args.blocks s.args.start))
 shown c = shows-bound _ _ _ _ _ refl c.explore-found.ensures.0.shows
 
-returns : tie.Need-returns-in-Refused
+returns : tie.Need-returns-in-Err
 returns c =
     let found = c in
-    search-refused _ _ _ found.explore-found.result _ (shown found.before) c.in-Refused.is
+    search-refused _ _ _ found.explore-found.result _ (shown found.before) c.in-Err.is
 
 first-moved-requires : tie.Need-first_moved-hit-requires
 first-moved-requires c κs =
     let found = c in
     (found.requires, reported _ _ _ found.explore-found.result (shown found.before.before) c.in_default.is, c.cells_read-read.ensures)
 
-returns-2 : tie.Need-returns-in-At
+returns-2 : tie.Need-returns-in-Some
 returns-2 c =
     let moved = c in
     let told = moved in
-    searched _ _ _ told.explore-found.result _ (shown told.before.before.before.before) told.in_default.is (sym (ap of_hit c.in-At.is) ∙ moved.first_moved-hit.ensures)
+    searched _ _ _ told.explore-found.result _ (shown told.before.before.before.before) told.in_default.is (sym c.in-Some.is ∙ moved.first_moved-hit.ensures)
 
-returns-3 : tie.Need-returns-in-Nowhere
+returns-3 : tie.Need-returns-in-None
 returns-3 c =
     let moved = c in
     let told = moved in
-    searched _ _ _ told.explore-found.result _ (shown told.before.before.before.before) told.in_default.is (sym (ap of_hit c.in-Nowhere.is) ∙ moved.first_moved-hit.ensures)
+    searched _ _ _ told.explore-found.result _ (shown told.before.before.before.before) told.in_default.is (sym c.in-None.is ∙ moved.first_moved-hit.ensures)
 
 pub search_spec : {M : Type 1} → statement M
 search_spec =

@@ -26,16 +26,16 @@ returns c =
     tried-nothing _ s.args.budget s.args.figure _ _ (sym (ap of_trial c.in_default.is) ∙ c.trial_at-trial.ensures)
 
 -- where the function begins, and the change that is tried
-abbrev begun : tie.In-Of → tie.Start
+abbrev begun : tie.In-Some → tie.Start
 begun c = c.before.before
 
-abbrev change : tie.In-Of → Change
-change c = c.in-Of.change
+abbrev change : tie.In-Some → Change
+change c = c.in-Some.change
 
-tried : (c : tie.In-Of) →
+tried : (c : tie.In-Some) →
     let s = begun c in
     change c ∷ [] ≡ trial_of (whole (sizes_of s.args.code.now) s.args.blocks s.args.start) s.args.j
-tried c = sym (ap of_trial c.in-Of.is) ∙ c.trial_at-trial.ensures
+tried c = sym (ap of_trial c.in-Some.is) ∙ c.trial_at-trial.ensures
 
 is-moved-by-requires : tie.Need-is_moved_by-requires
 is-moved-by-requires c κs =

@@ -143,7 +143,7 @@ split-split-requires-2 t c κs =
     let s = e in
     (less _ _ t s.requires.0 (left t e.before.before.before.before.before.before), (lower-case s.requires.1.0 (divided t k.before.before.before.before) c.case_at-below.ensures, s.requires.1.1, omega (arith, left t e.before.before.before.before.before.before), s.requires.1.3))
 
-split-enum-told-2 : (t : ℕ) → split-lts.Need-enum_told-in-Accepted (split-claims t) (split_at t) split.Post
+split-enum-told-2 : (t : ℕ) → split-lts.Need-enum_told-in-Ok (split-claims t) (split_at t) split.Post
 split-enum-told-2 t c = search rules
 
 split-enum-told-3 : (t : ℕ) → split-lts.Need-enum_told-in_default-verdict (split-claims t) (split_at t) split.Post
@@ -209,7 +209,7 @@ split-returns-4 t c =
     let u = splits (program_of a.code.now) cuts (from x.place x.number w) in
     let h = shows f (ap (splits _ cuts) (m.case_at-below.ensures.is ∙ d.lower)) m.split-first.ensures.0 in
     let j = shows g (ap (splits _ cuts) (n.case_at-from.ensures.is ∙ d.upper)) n.split-second.ensures.0 in (
-      shows c.larger.result (joined t k.before.before.before.before.before.before.before.before.before.before.before.before.before.before.before.before) (subst (λ r. Shows r (larger v u)) (sym c.larger.ensures) (larger-shown f g v u n.in-Accepted.is h j)),
+      shows c.larger.result (joined t k.before.before.before.before.before.before.before.before.before.before.before.before.before.before.before.before) (subst (λ r. Shows r (larger v u)) (sym c.larger.ensures) (larger-shown f g v u n.in-Ok.is h j)),
       subst (Figures 1025) (sym c.larger.ensures) (larger-figures f g m.split-first.ensures.1 n.split-second.ensures.1),
     )
 

@@ -1,6 +1,6 @@
 -- `split_bound::larger` meets its contract. Assumes nothing.
+use Rattle.std.specs.Prelude.{Ok}
 use mathlib.Core.Path.{sym, ap, ◌∙◌}
-use Rattle.refusals.specs.declared.Acceptance.TheVariants.{Accepted}
 use Rattle.split_bound.specs.Held.{larger_by, larger_of}
 use borrow.Author.Rules.{rules}
 use Rattle.split_bound.proofs.larger.Statement.{statement}
@@ -15,14 +15,14 @@ unfolding larger_by larger_of
 returns-2 c =
     let a = c.args in
     (λ i. record {
-      verdict = Accepted;
-      used = c.larger-used.ensures i;
-      cycles = c.larger-cycles.ensures i;
-      words = c.larger-words.ensures i;
-      depth = c.larger-depth.ensures i;
+      verdict = Ok tt;
+      used = c.max-used.ensures i;
+      cycles = c.max-cycles.ensures i;
+      words = c.max-words.ensures i;
+      depth = c.max-depth.ensures i;
       path = 1;
     })
-    ∙ sym (ap (larger_by a.f a.g) c.in-Accepted.is)
+    ∙ sym (ap (larger_by a.f a.g) c.in-Ok.is)
 
 pub larger_spec : {M : Type 1} → statement M
 larger_spec =

@@ -6,7 +6,7 @@ use lib.ListN.{length}
 use Rattle.cells.specs.Try.{done}
 use Rattle.cells.specs.Cells.{handle}
 use Rattle.machine_state.specs.HeldProgram.{sizes_of}
-use Rattle.machine_state.specs.HeldState.{Fits, slot, of_slot, whole}
+use Rattle.machine_state.specs.HeldState.{Fits, slot, whole}
 use Rattle.machine_state.proofs.ProgramLaws.{fits_all}
 use Rattle.machine_state.proofs.Stack.{length-images}
 use Rattle.nearest_changes.specs.Places.{cell_at}
@@ -41,20 +41,20 @@ returns-2 c =
     let at-p2 = c in
     let s = at-p2 in
     let w = whole (sizes_of s.args.code.now) s.args.blocks s.args.start in
-    let e = ap (λ h. slot (sizes_of s.args.code.now) h at-p2.in-Field.k) (sym c.handle.ensures) ∙ sym c.slot_of-field.ensures ∙ ap of_slot c.in_default.is in
+    let e = ap (λ h. slot (sizes_of s.args.code.now) h at-p2.in-Field.k) (sym c.handle.ensures) ∙ sym c.slot_of-field.ensures ∙ c.in_default.is in
     sym (ap (λ q. parts_at s.args.n (cell_at q w)) at-p2.in-Field.is ∙ ap (parts_at s.args.n) (field-lacks _ _ _ (fits s.before.before.before.before) _ _ e))
 
 -- the slot that was found
-found : (c : tie.In-At)
+found : (c : tie.In-Some)
     → let at-p2 = c in
-    slot (sizes_of at-p2.args.code.now) (handle at-p2.in-Field.b) at-p2.in-Field.k ≡ done c.in-At.j
+    slot (sizes_of at-p2.args.code.now) (handle at-p2.in-Field.b) at-p2.in-Field.k ≡ done c.in-Some.j
 found c =
     let at-handle = c in
     let at-p2 = at-handle in
     let start = at-p2 in
-    ap (λ h. slot (sizes_of start.args.code.now) h at-p2.in-Field.k) (sym at-handle.handle.ensures) ∙ sym c.slot_of-field.ensures ∙ ap of_slot c.in-At.is
+    ap (λ h. slot (sizes_of start.args.code.now) h at-p2.in-Field.k) (sym at-handle.handle.ensures) ∙ sym c.slot_of-field.ensures ∙ c.in-Some.is
 
-within : (c : tie.In-At) → c.in-At.j < 128
+within : (c : tie.In-Some) → c.in-Some.j < 128
 within c =
     let c1 = c in
     let s = c1 in
@@ -79,7 +79,7 @@ returns-4 c =
     held-parts c.parts_of-in-Entry.ensures (to_z-of_z w32 s.args.n (search rules))
     (ap (λ q. cell_at q w) c.in-Entry.is ∙ entry-there _ _ _ s.requires.1 _ _ (omega (arith, c.if-free-k.false)))
 
-returns-5 : tie.Need-returns-in-At
+returns-5 : tie.Need-returns-in-Some
 returns-5 c =
     let at-p2 = c in
     let s = at-p2 in

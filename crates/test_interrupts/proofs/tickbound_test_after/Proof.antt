@@ -18,7 +18,7 @@ enum_told c = search rules
 routine-of-requires : tie.Need-routine_of-x-requires
 routine-of-requires c κs =
     let k = c in
-    accepted-passes Run 13 _ k.args.text.now (sym k.check-verdict.ensures ∙ c.in-Accepted.is)
+    accepted-passes Run 13 _ k.args.text.now (sym k.check-verdict.ensures ∙ c.in-Ok.is)
 
 interrupted-requires : tie.Need-interrupted-numbers-requires
 interrupted-requires c κs = c.routine_of-x.ensures.1
@@ -27,25 +27,25 @@ put-numbers-requires : tie.Need-put_numbers-requires
 put-numbers-requires c κs =
     let k = c in
     let s = k in
-    accepted-enough Run 13 (length s.args.out.now) s.args.text.now (sym k.check-verdict.ensures ∙ c.in-Accepted.is)
+    accepted-enough Run 13 (length s.args.out.now) s.args.text.now (sym k.check-verdict.ensures ∙ c.in-Ok.is)
 
-returns : tie.Need-returns-in-Accepted
+returns : tie.Need-returns-in-Ok
 unfolding interrupt_answer read_by
 returns c =
     let b = c in
     let held = b.routine_of-x in
     let k = b in
     let s = k in
-    let accepts = sym k.check-verdict.ensures ∙ b.in-Accepted.is in
+    let accepts = sym k.check-verdict.ensures ∙ b.in-Ok.is in
     let p = read-answers Run 13 (length s.args.out.now) s.args.text.now (λ x. reported (interrupted x s.args.n)) accepts held.result held.ensures.0 in
     tells-numbers _ s.args.out.now _ (p ∙ ap reported (sym b.interrupted-numbers.ensures)) _ b.put_numbers.ensures
 
-returns-2 : tie.Need-returns-in-Refused
+returns-2 : tie.Need-returns-in-Err
 unfolding interrupt_answer read_by
 returns-2 c =
     let k = c in
     let s = k in
-    let p = check-refused (λ x. reported (interrupted x s.args.n)) (read_run s.args.text.now) 13 (length s.args.out.now) _ (sym k.check-verdict.ensures ∙ c.in-Refused.is) in
+    let p = check-refused (λ x. reported (interrupted x s.args.n)) (read_run s.args.text.now) 13 (length s.args.out.now) _ (sym k.check-verdict.ensures ∙ c.in-Err.is) in
     tells-refusal _ s.args.out.now _ p _ c.number.ensures
 
 pub tickbound_test_after_spec : {M : Type 1} → statement M

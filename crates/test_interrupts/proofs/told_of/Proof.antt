@@ -20,7 +20,7 @@ place-requires : tie.Need-place-requires
 place-requires c κs = search rules
 
 returns-2 : tie.Need-returns
-returns-2 c = tells-refused _ _ c.in-Refused.is _ _ c.number.ensures c.place.ensures
+returns-2 c = tells-refused _ _ c.in-Err.is _ _ c.number.ensures c.place.ensures
 
 pub told_of_spec : {M : Type 1} → statement M
 told_of_spec =

@@ -1,4 +1,5 @@
 -- `words::number_at` meets its contract. Assumes nothing.
+use Rattle.std.specs.Prelude.{None, Some}
 use mathlib.Core.Path.{◌≡◌, sym, ap, ◌∙◌}
 use mathlib.Core.Bool.{cond}
 use native.Mathlib.Omega.{arith}
@@ -8,7 +9,6 @@ use borrow.Author.Tests.{lt-ltb, le-ltb}
 use mir.Syntax.{w64}
 use mir.Val.{of_z, to_z}
 use mir.ValLaws.{to_z-of_z}
-use Rattle.text.specs.declared.Place.TheVariants.{At, Missing}
 use Rattle.words.specs.Held.{number_in}
 use Rattle.words.proofs.OffsetLaws.{number-negative, index-fits, Natural, index-natural}
 use borrow.Author.Rules.{rules}
@@ -41,14 +41,14 @@ returns-3 c =
     let i = c in
     let s = i in
     let v = get_or s.args.numbers.now (nat_abs (to_z w64 (of_z w64 s.args.index))) 0 in
-    sym (sym (found s.before.before.before.before) ∙ (natural i.before.before.before).number c.if-numbers-n.false ∙ ap (λ b. cond b (At v) Missing) (lt-ltb v 1024 (omega arith)))
+    sym (sym (found s.before.before.before.before) ∙ (natural i.before.before.before).number c.if-numbers-n.false ∙ ap (λ b. cond b (Some v) None) (lt-ltb v 1024 (omega arith)))
 
 returns-4 : tie.Need-returns
 returns-4 c =
     let i = c in
     let s = i in
     let v = get_or s.args.numbers.now (nat_abs (to_z w64 (of_z w64 s.args.index))) 0 in
-    sym (sym (found s.before.before.before.before) ∙ (natural i.before.before.before).number c.if-numbers-n.false ∙ ap (λ b. cond b (At v) Missing) (le-ltb v 1024 (omega arith)))
+    sym (sym (found s.before.before.before.before) ∙ (natural i.before.before.before).number c.if-numbers-n.false ∙ ap (λ b. cond b (Some v) None) (le-ltb v 1024 (omega arith)))
 
 pub number_at_spec : {M : Type 1} → statement M
 number_at_spec =

@@ -9,7 +9,6 @@ use mir.ValLaws.{to_z-of_z}
 use borrow.Author.Rules.{rules}
 use Rattle.cells.specs.Try.{Try}
 use Rattle.cells.specs.declared.Cell.{Cell}
-use Rattle.cells.specs.HeldAnswers.{of_operand}
 use Rattle.instructions.specs.HeldColumns.{operation_of}
 use Rattle.machine.specs.Machine.{index}
 use Rattle.machine_outcome.specs.declared.Outcome.{Outcome}
@@ -18,7 +17,7 @@ use Rattle.machine_outcome.specs.HeldOutcome.{drops, operated, outcome, Room}
 use Rattle.machine_outcome.proofs.TurnLaws.{room}
 use Rattle.machine_state.specs.declared.code.Line.{Line}
 use Rattle.machine_state.specs.HeldProgram.{sizes_of}
-use Rattle.machine_state.specs.HeldState.{slot, of_slot}
+use Rattle.machine_state.specs.HeldState.{slot}
 use Rattle.machine_step.specs.declared.effects.Effect.{Effect}
 use Rattle.machine_step.specs.declared.effects.Effect.TheVariants.{Gives}
 use Rattle.machine_step.specs.HeldEffect.{giving, setting, getting, effect}
@@ -82,19 +81,19 @@ returns : tie.Need-returns-in_default
 unfolding effect giving
 returns c =
     let a = c in
-    ap (giving _) (operated-from a.before.before.before.before _ _ (to_z-of_z w32 _ (fitting a.before.before.before.before)) (ap of_operand (sym c.in_default.is) ∙ c.operated-given.ensures)) ∙ comes a.before.before.before.before outcomes.Operates c.in-Operates.is
+    ap (giving _) (operated-from a.before.before.before.before _ _ (to_z-of_z w32 _ (fitting a.before.before.before.before)) (sym c.in_default.is ∙ c.operated-given.ensures)) ∙ comes a.before.before.before.before outcomes.Operates c.in-Operates.is
 
 returns-2 : tie.Need-returns-in_default-field
 unfolding effect setting
 returns-2 c =
     let a = c in
-    ap (setting _) (slot-from a.before.before.before _ (ap of_slot (sym c.in_default-field.is) ∙ c.slot_of-field.ensures)) ∙ comes a.before.before.before (outcomes.Sets _) c.in-Sets.is
+    ap (setting _) (slot-from a.before.before.before _ (sym c.in_default-field.is ∙ c.slot_of-field.ensures)) ∙ comes a.before.before.before (outcomes.Sets _) c.in-Sets.is
 
 returns-3 : tie.Need-returns-in_default-field-2
 unfolding effect getting
 returns-3 c =
     let a = c in
-    ap getting (slot-from a.before.before.before _ (ap of_slot (sym c.in_default-field-2.is) ∙ c.slot_of-field-in-Gets.ensures)) ∙ comes a.before.before.before outcomes.Gets c.in-Gets.is
+    ap getting (slot-from a.before.before.before _ (sym c.in_default-field-2.is ∙ c.slot_of-field-in-Gets.ensures)) ∙ comes a.before.before.before outcomes.Gets c.in-Gets.is
 
 returns-4 : tie.Need-returns-in-Gives
 unfolding effect
@@ -102,29 +101,29 @@ returns-4 c =
     let a = c in
     ap (λ k. Gives k c.in-Gives.c) (dropped a.before.before _ c.drops_of.ensures) ∙ comes a.before.before (outcomes.Gives _) c.in-Gives.is
 
-returns-5 : tie.Need-returns-in-Is
+returns-5 : tie.Need-returns-in-Some
 unfolding effect giving
 returns-5 c =
     let a = c in
-    ap (λ k. Gives k c.in-Is.c) (dropped a.before.before.before.before.before _ c.drops_of-in-Operates.ensures)
-    ∙ ap (giving _) (operated-from a.before.before.before.before.before _ _ (to_z-of_z w32 _ (fitting a.before.before.before.before.before)) (ap of_operand (sym c.in-Is.is) ∙ c.operated-given.ensures))
+    ap (λ k. Gives k c.in-Some.c) (dropped a.before.before.before.before.before _ c.drops_of-in-Operates.ensures)
+    ∙ ap (giving _) (operated-from a.before.before.before.before.before _ _ (to_z-of_z w32 _ (fitting a.before.before.before.before.before)) (sym c.in-Some.is ∙ c.operated-given.ensures))
     ∙ comes a.before.before.before.before.before outcomes.Operates c.in-Operates.is
 
 returns-6 : tie.Need-returns-in-Stores
 unfolding effect
 returns-6 c = comes c.before outcomes.Stores c.in-Stores.is
 
-returns-7 : tie.Need-returns-in-At
+returns-7 : tie.Need-returns-in-Some-field
 unfolding effect setting
 returns-7 c =
     let a = c in
-    ap (setting _) (slot-from a.before.before.before _ (ap of_slot (sym c.in-At.is) ∙ c.slot_of-field.ensures)) ∙ comes a.before.before.before (outcomes.Sets _) c.in-Sets.is
+    ap (setting _) (slot-from a.before.before.before _ (sym c.in-Some-field.is ∙ c.slot_of-field.ensures)) ∙ comes a.before.before.before (outcomes.Sets _) c.in-Sets.is
 
-returns-8 : tie.Need-returns-in-At-field
+returns-8 : tie.Need-returns-in-Some-field-2
 unfolding effect getting
 returns-8 c =
     let a = c in
-    ap getting (slot-from a.before.before.before _ (ap of_slot (sym c.in-At-field.is) ∙ c.slot_of-field-in-Gets.ensures)) ∙ comes a.before.before.before outcomes.Gets c.in-Gets.is
+    ap getting (slot-from a.before.before.before _ (sym c.in-Some-field-2.is ∙ c.slot_of-field-in-Gets.ensures)) ∙ comes a.before.before.before outcomes.Gets c.in-Gets.is
 
 returns-9 : tie.Need-returns-in-Goes
 unfolding effect

@@ -1,0 +1,25 @@
+-- `file_names::begins` meets its contract: `zip` gives the words of both in pairs.
+use Rattle.std.proofs.Common.{ℕ, List, sym, ◌∙◌, rules, tests, arith}
+use Rattle.std.proofs.lemmas.Iterator.{YieldsList-from_zip}
+use Rattle.std.proofs.lemmas.Iterator.Consumers.{YieldsList-at}
+use Rattle.std.proofs.lemmas.Iterator.Search.{all_from_yields_List}
+use Rattle.text.specs.Text.{equals, line_words}
+use Rattle.text.proofs.SplitLaws.{words-yielded}
+use Rattle.file_names.proofs.NameLaws.{leads-short, leads-pairs}
+use Rattle.file_names.proofs.begins.Goals as goal
+
+pub returns-then-count_words : goal.returns-then-count_words
+returns-then-count_words c = sym (leads-short (line_words c.args.line.now) (line_words c.args.names.now) (omega arith))
+
+pub returns : goal.returns
+returns c =
+    let line = c.args.line.now in
+    let names = c.args.names.now in
+    let p = c.split.ensures in
+    let o = c.split-others.ensures in
+    all_from_yields_List (λ (p : List ℕ × List ℕ). equals p.0 p.1) c.all.new.self _ _ c.all.ensures.ran
+    (YieldsList-from_zip
+    (YieldsList-at c.zip.ensures.first (words-yielded _ line p.rest p.done p.closure (λ x b q k. search (rules, tests))))
+    (YieldsList-at c.zip.ensures.second (words-yielded _ names o.rest o.done o.closure (λ x b q k. search (rules, tests)))))
+    (λ x b q k. search (rules, tests))
+    ∙ leads-pairs (line_words line) (line_words names) (omega arith)

@@ -1,0 +1,36 @@
+-- `run_entry::run` meets its contract.
+use Rattle.std.proofs.lemmas.Result.{err_from_is_err_and}
+use mathlib.Core.Path.{sym, ◌∙◌}
+use lib.ListN.{length}
+use Rattle.file_format.specs.Routine.{read_run}
+use Rattle.file_check.specs.HeldChecks.{read_by}
+use Rattle.file_check.specs.declared.Reader.TheVariants.{Run}
+use Rattle.file_entry.proofs.EntryLaws.{accepted-passes, check-refuses, read-holds, read-gives}
+use Rattle.report_theory.specs.Answers.{run_routine, run_answer}
+use Rattle.run_entry.proofs.FunctionLaws.{run-printable, run-keeps}
+use Rattle.run_entry.proofs.run.Goals as goal
+
+pub routine_of-routine-requires : goal.routine_of-routine-requires
+routine_of-routine-requires c =
+    accepted-passes Run 128 _ c.args.text.now (sym c.check.ensures ∙ c.in_ok-check.was)
+
+pub run_routine-requires : goal.run_routine-requires
+unfolding read_by
+run_routine-requires c =
+    let held = c.routine_of-routine in
+    let accepts = sym c.check.ensures ∙ c.in_ok-check.was in
+    let h = read-holds Run 128 (length c.args.out.now) c.args.text.now run_routine accepts held.result held.ensures.holds in
+    record { limited = held.ensures.limited; printable = run-printable c.args.text.now _ h.0 _ h.1 }
+
+pub returns : goal.returns
+unfolding run_answer read_by
+returns c =
+    let held = c.routine_of-routine in
+    let accepts = sym c.check.ensures ∙ c.in_ok-check.was in
+    let all = run-keeps c.args.text.now (length c.args.out.now) c.args.out.now _ _ (read-gives Run 128 (length c.args.out.now) c.args.text.now run_routine accepts held.result held.ensures.holds _ _ _ (c.run_routine.ensures.value, c.run_routine.ensures.out_after)) in record { value = all.0; out_after = all.1.0; within = all.1.1.0; accepts = all.1.1.1.0; listed = all.1.1.1.1 }
+
+pub returns-in_err-check : goal.returns-in_err-check
+unfolding run_answer read_by
+returns-in_err-check c =
+    let p = err_from_is_err_and c.from_residual.result c.from_residual.ensures.1 in
+    rw (p.1, p.2) (let all = run-keeps c.args.text.now (length c.args.out.now) c.args.out.now _ _ (check-refuses run_routine (read_run c.args.text.now) 128 (length c.args.out.now) _ (sym c.check.ensures ∙ c.in_err-check.was) _) in record { value = all.0; out_after = all.1.0; within = all.1.1.0; accepts = all.1.1.1.0; listed = all.1.1.1.1 })
