@@ -95,16 +95,16 @@ typedef struct {
 #define TICKBOUND_DECIDE_STACK (2304 * 1024)        /* 1,758 */
 #define TICKBOUND_MERGE_STACK (2048 * 1024)         /* 1,677 */
 #define TICKBOUND_EXPLAIN_MERGE_STACK (2304 * 1024) /* 1,697 */
-#define TICKBOUND_SPLIT_STACK (2560 * 1024)         /* 1,827 */
+#define TICKBOUND_SPLIT_STACK (2560 * 1024)         /* 1,824 */
 #define TICKBOUND_DECIDE_SPLIT_STACK (2560 * 1024)  /* 1,824 */
-#define TICKBOUND_PREVIEW_STACK (256 * 1024)        /* 184 */
-#define TICKBOUND_EXPLAIN_STACK (256 * 1024)        /* 162 */
-#define TICKBOUND_NEAREST_STACK (256 * 1024)        /* 163 */
-#define TICKBOUND_BOUND_STACK (256 * 1024)          /* 152 */
+#define TICKBOUND_PREVIEW_STACK (256 * 1024)        /* 185 */
+#define TICKBOUND_EXPLAIN_STACK (256 * 1024)        /* 163 */
+#define TICKBOUND_NEAREST_STACK (256 * 1024)        /* 164 */
+#define TICKBOUND_BOUND_STACK (256 * 1024)          /* 153 */
 #define TICKBOUND_REPLAY_STACK (128 * 1024)         /* 59 */
 #define TICKBOUND_TRACE_STACK (128 * 1024)          /* 64 */
 #define TICKBOUND_RUN_STACK (128 * 1024)            /* 56 */
-#define TICKBOUND_IMPORT_STACK (64 * 1024)          /* 17 */
+#define TICKBOUND_IMPORT_STACK (64 * 1024)          /* 14 */
 #define TICKBOUND_EXPORT_STACK (64 * 1024)          /* 10 */
 #define TICKBOUND_GENERATE_STACK (64 * 1024)        /* 1 */
 
