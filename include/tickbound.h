@@ -104,7 +104,7 @@ typedef struct {
 #define TICKBOUND_REPLAY_STACK (128 * 1024)         /* 59 */
 #define TICKBOUND_TRACE_STACK (128 * 1024)          /* 64 */
 #define TICKBOUND_RUN_STACK (128 * 1024)            /* 56 */
-#define TICKBOUND_IMPORT_STACK (64 * 1024)          /* 14 */
+#define TICKBOUND_IMPORT_STACK (64 * 1024)          /* 17 */
 #define TICKBOUND_EXPORT_STACK (64 * 1024)          /* 10 */
 #define TICKBOUND_GENERATE_STACK (64 * 1024)        /* 1 */
 

@@ -75,7 +75,8 @@ fn branch(
 }
 
 // Every way from `registers` with `stack`: a loop of steps up to an unknown branch. The cells of the stack and of the blocks are written in
-// place, where a method would copy the array; the registers stand beside them.
+// place, where a method would copy the array; the registers stand beside them. The loop is a while: the steps left are a field of the tally,
+// which each step lowers as it adds its price, and a for would count them a second time.
 #[cycle(branch_explore_walk)]
 fn walk(
     code: &[u32; 5131],
@@ -91,7 +92,6 @@ fn walk(
     ensures bounded { Bounded openings budget result }
 {
     let mut tally = bound_figures::nothing(budget);
-    // A while: the steps left are a field of the tally, which each step lowers as it adds its price; a for would count them a second time.
     while 0 < tally.left {
         let Some(line) = bound_turns::reachable(code, registers) else {
             return stuck(registers, budget - tally.left + 1);

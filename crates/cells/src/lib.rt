@@ -319,8 +319,8 @@ pub fn condition_of(a: Cell) -> Option<Condition>
 pub fn block(a: Cell) -> Option<u8>
     ensures { result ≡ block a }
 {
-    match a.value {
-        Value::Range(_, _) => None,
-        Value::Handle(k) => Some(k),
-    }
+    let Value::Handle(k) = a.value else {
+        return None;
+    };
+    Some(k)
 }

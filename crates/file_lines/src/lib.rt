@@ -50,7 +50,7 @@ fn word_passes(t: WordTest, w: &[u8]) -> bool
 pub fn all_words(t: WordTest, line: &[u8]) -> bool
     ensures { result ≡ all (word_test t) (line_words line.now) }
 {
-    line.split(|c| *c == b' ').all(|w| word_passes(t, w))
+    text::split_words(line).all(|w| word_passes(t, w))
 }
 
 // Whether all words listed on a line pass a test: `-` lists none.
@@ -102,7 +102,7 @@ pub fn kinds_named(line: &[u8]) -> bool
     let starts = instructions::name_starts();
     let names = instructions::all_names();
     let mut seen = [0u8; 61];
-    for word in line.split(|c| *c == b' ') {
+    for word in text::split_words(line) {
         let kind = instructions::kind_in(&keyed, &starts, &names, word);
         if !mark(&mut seen, kind) {
             return false;
@@ -173,7 +173,7 @@ fn extras_in_range(names: &[u8], line: &[u8]) -> bool
     ensures { result ≡ extras_in_range (line_words names.now) (line_words line.now) }
 {
     let mut above = names;
-    for w in line.split(|c| *c == b' ') {
+    for w in text::split_words(line) {
         let name = text::word_at(above, 0);
         if !extra_in_range(name, w) {
             return false;

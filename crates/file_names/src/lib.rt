@@ -74,8 +74,8 @@ fn begins(line: &[u8], names: &[u8]) -> bool
     if text::count_words(names) < text::count_words(line) {
         return false;
     }
-    let others = names.split(|c| *c == b' ');
-    line.split(|c| *c == b' ')
+    let others = text::split_words(names);
+    text::split_words(line)
         .zip(others)
         .all(|(word, other)| text::same(word, other))
 }
@@ -160,7 +160,7 @@ pub fn blocks_named(line: &[u8]) -> Blocks
     if text::same(line, b"-") {
         return blocks;
     }
-    for name in line.split(|c| *c == b' ') {
+    for name in text::split_words(line) {
         let next = add_name(blocks, name);
         if next.total == blocks.total {
             return blocks;

@@ -313,7 +313,8 @@ fn is_code(rest: &[u8], n: usize, line: &[u8]) -> bool
 }
 
 // Fills in the lines of a program, and how many there are, by the code lines that `body` begins with and the seven lines of prices in `text`, where
-// `places` says where the lines of the layout begin. What is left of `body` comes back. The rest of the head is not filled in.
+// `places` says where the lines of the layout begin. What is left of `body` comes back. The rest of the head is not filled in. The loop is a
+// while: the lines of a text are met by cutting off the first, and the first that is no code ends them.
 pub fn put_lines<'a>(
     code: &mut [u32; 5131],
     text: &[u8],
@@ -351,7 +352,6 @@ pub fn put_lines<'a>(
     let mut rest = body;
     let mut line = text::first_line(rest);
     let mut n = 0;
-    // A while: the lines of a text are met by cutting off the first, and the first that is no code ends them.
     while is_code(rest, n, line) {
         let cut = file_code::cut_code(line, &keyed, &starts, &table);
         let slot = find_price(&mut kept, kinds, kind_cycles, kind_words, extras, line, cut);

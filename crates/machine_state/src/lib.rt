@@ -154,7 +154,9 @@ pub fn slot_of(code: &[u32; 5131], a: Cell, n: usize) -> Option<usize>
     requires { IsProgram code.now }
     ensures { result ≡ slot (sizes_of code.now) a n }
 {
-    let handled = cells::block(a)?;
+    let Some(handled) = cells::block(a) else {
+        return None;
+    };
     let k = handled as usize;
     if count_blocks(code) <= k {
         return None;

@@ -7,7 +7,6 @@ use Rattle.nearest_changes.specs.declared.Change.{Change}
 use Rattle.nearest_changes.specs.Places.{cell_at, position_of}
 use Rattle.nearest_changes.specs.Changes.{number_at, change_to}
 
--- the number that is held, or stuck
 -- the start has a cell at p
 pub record Present (p : Position) (s : State) : Type 0 where
   pub cell : Cell

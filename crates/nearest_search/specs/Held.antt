@@ -14,7 +14,6 @@ use Rattle.nearest_changes.specs.Places.{replace_at, position_of}
 use Rattle.nearest_changes.specs.Changes.{number_at, applied, first}
 use Rattle.nearest_search.specs.Search.{moved, Searched, found, refused_by}
 
--- the first change that moves, if there is one
 -- what a search comes to
 abbrev pub of_sought : Result (Option Change) Refusal → Searched
 of_sought (Ok (Some c)) = found (some c)

@@ -1,60 +1,40 @@
--- Laws of a line that `split` cuts at its spaces: the pieces are its words, and a search looks at them one by one. Assumes nothing.
+-- Laws of a line that `split_words` cuts into its words, one by one, and of a search that looks at them so. Assumes nothing.
 use Prim.Native.Nat.{ℕ, suc, ◌+◌, ◌<◌, ◌≤◌}
-use mathlib.Core.Path.{◌≡◌, refl, sym, ap, ap₂, subst, ◌∙◌}
-use mathlib.Core.Bool.{Bool, true, false, cond}
-use mathlib.Core.List.{List, [], ◌∷◌}
+use mathlib.Core.Path.{◌≡◌, refl, sym, ap, ◌∙◌}
+use mathlib.Core.Bool.{true, false}
+use mathlib.Core.List.{List, []}
 use native.Mathlib.Omega.{arith}
 use native.Mathlib.Numerals.{add-one}
-use lib.Dec.{eqb}
 use lib.ListN.{length, get_or, drop, drop_of_length-le}
 use lib.Seq.{drop-cons}
 use denote.Ref.{Bor}
-use denote.Param.Members.{Mut}
 use Rattle.std.specs.Prelude.{Option, None, Some}
-use Rattle.std.specs.Fn.{CalledAt}
-use Rattle.std.specs.Iterator.{Yields}
-use Rattle.std.specs.List.{slice_split, slice_get, onto_first}
+use Rattle.std.specs.Iterator.{Yields, YieldsFirstRef}
+use Rattle.std.specs.List.{slice_get}
 use Rattle.std.specs.Option.{option_map, unwrap_or}
-use Rattle.std.specs.Slice.Iter as slice
 use Rattle.std.proofs.lemmas.Iterator.{YieldsList}
-use Rattle.std.proofs.lemmas.Iterator.Splits.{YieldsList-from_slice_split}
-use Rattle.std.proofs.lemmas.Iterator.Consumers.{YieldsList-turn, YieldsList-end}
+use Rattle.std.proofs.lemmas.Iterator.Consumers.{YieldsList-from_first, YieldsList-turn, YieldsList-end}
 use Rattle.std.proofs.lemmas.Option.{unwrap_or-slice_get}
-use Rattle.text.specs.Text.{equals, onto, parted_by, line_words, place_from, looked}
+use Rattle.text.specs.Text.{equals, line_words, place_from, looked}
+use Rattle.text.specs.HeldWords.{words_left}
+use Rattle.text.specs.declared.Words.{Words}
 use Rattle.text.specs.declared.Lookup.{Lookup}
 
-onto-same : (x : ℕ) (ps : List (List ℕ)) → onto_first x ps ≡ onto x ps
-onto-same x [] = refl
-onto-same x (p ∷ ps) = refl
+-- `split_words(line)` gives the words of line; the first fact is the call's clause
+pub words-yielded : {s : Words} (line : List ℕ) → words_left s.rest ≡ line_words line → YieldsList (YieldsFirstRef (λ w. words_left w.rest)) (λ x. x.now) s (line_words line)
+words-yielded line e = YieldsList-from_first (λ x. x.now) (λ w. words_left w.rest) (line_words line) e
 
-split-parted : (c : ℕ) (s : List ℕ) → slice_split (λ b. eqb b c) s ≡ parted_by c s
-unfolding parted_by
-split-parted c [] = refl
-split-parted c (x ∷ xs) =
-    let ih = split-parted c xs in
-    ap₂ (cond (eqb x c)) (ap (λ (ps : List (List ℕ)). [] ∷ ps) ih) (onto-same x (slice_split (λ b. eqb b c) xs) ∙ ap (onto x) ih)
-
-split-words : (line : List ℕ) → slice_split (λ b. eqb b 32) line ≡ line_words line
-unfolding line_words
-split-words line = split-parted 32 line
-
--- `line.split(|c| *c == b' ')` gives the words of line; the first three facts are the call's clauses `rest`, `done` and `closure`
-pub words-yielded : {F : Type 0} {s : _} (g : Mut F (Bor ℕ × Unit {0}) Bool) {f : F} (line : List ℕ) → slice.split_rest s ≡ line → slice.split_done s ≡ false → slice.split_callee s ≡ f
-    → ((x : ℕ) (b : Bool) (q : F) → CalledAt g f x b q → (q ≡ f) × (b ≡ eqb x 32)) → YieldsList (slice.split_steps g) (λ x. x.now) s (line_words line)
-words-yielded g line r d k h = subst (YieldsList (slice.split_steps g) (λ x. x.now) _) (split-words line) (YieldsList-from_slice_split g (λ b. eqb b 32) line r d k h)
-
--- a `for` over them, which has yielded the k words xs: the next is x; there is none. The facts on p are the clauses of `split`
-pub word-turn : {F : Type 0} {p s : _} {g : Mut F (Bor ℕ × Unit {0}) Bool} {f : F} {r : Option (Bor (List ℕ))} (line : List ℕ) {k : ℕ} (xs : List (Bor (List ℕ))) (t u : _) → k ≡ length xs → Yields (slice.split_steps g) s xs t
-    → slice.split_steps g t r u → s ≡ p → slice.split_rest p ≡ line → slice.split_done p ≡ false → slice.split_callee p ≡ f → ((x : ℕ) (b : Bool) (q : F) → CalledAt g f x b q → (q ≡ f) × (b ≡ eqb x 32))
+-- a `for` over them, which has yielded the k words xs: the next is x; there is none. The fact on p is the clause of `split_words`
+pub word-turn : {p s : Words} {r : Option (Bor (List ℕ))} (line : List ℕ) {k : ℕ} (xs : List (Bor (List ℕ))) (t u : _) → k ≡ length xs → Yields (YieldsFirstRef (λ w. words_left w.rest)) s xs t
+    → YieldsFirstRef (λ w. words_left w.rest) t r u → s ≡ p → words_left p.rest ≡ line_words line
     → (x : Bor (List ℕ)) → r ≡ Some x → (k < length (line_words line)) × (x.now ≡ get_or (line_words line) k x.now)
-word-turn {p} {s} {g} {r} line xs t u n so_far step same rest done callee test x is =
-    rw n (YieldsList-turn (words-yielded g line (ap slice.split_rest same ∙ rest) (ap slice.split_done same ∙ done) (ap slice.split_callee same ∙ callee) test) xs t so_far r u x is step)
+word-turn {p} {s} {r} line xs t u n so_far step same left x is =
+    rw n (YieldsList-turn (words-yielded line (ap (λ w. words_left w.rest) same ∙ left)) xs t so_far r u x is step)
 
-pub words-end : {F : Type 0} {p s : _} {g : Mut F (Bor ℕ × Unit {0}) Bool} {f : F} {r : Option (Bor (List ℕ))} (line : List ℕ) {k : ℕ} (xs : List (Bor (List ℕ))) (t u : _) → k ≡ length xs → Yields (slice.split_steps g) s xs t
-    → slice.split_steps g t r u → s ≡ p → slice.split_rest p ≡ line → slice.split_done p ≡ false → slice.split_callee p ≡ f → ((x : ℕ) (b : Bool) (q : F) → CalledAt g f x b q → (q ≡ f) × (b ≡ eqb x 32))
-    → r ≡ None → k ≡ length (line_words line)
-words-end {p} {s} {g} {r} line xs t u n so_far step same rest done callee test is =
-    n ∙ (YieldsList-end (words-yielded g line (ap slice.split_rest same ∙ rest) (ap slice.split_done same ∙ done) (ap slice.split_callee same ∙ callee) test) xs t so_far r u is step).1
+pub words-end : {p s : Words} {r : Option (Bor (List ℕ))} (line : List ℕ) {k : ℕ} (xs : List (Bor (List ℕ))) (t u : _) → k ≡ length xs → Yields (YieldsFirstRef (λ w. words_left w.rest)) s xs t
+    → YieldsFirstRef (λ w. words_left w.rest) t r u → s ≡ p → words_left p.rest ≡ line_words line → r ≡ None → k ≡ length (line_words line)
+words-end {p} {s} {r} line xs t u n so_far step same left is =
+    n ∙ (YieldsList-end (words-yielded line (ap (λ w. words_left w.rest) same ∙ left)) xs t so_far r u is step).1
 
 -- what `nth(k)` gives, or no bytes
 pub word-or-none : (r : Option (Bor (List ℕ))) (d : Bor (List ℕ)) (ws : List (List ℕ)) (k : ℕ) → option_map (λ x. x.now) r ≡ slice_get ws k → d.now ≡ [] → (unwrap_or r d).now ≡ get_or ws k []

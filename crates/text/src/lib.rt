@@ -1,8 +1,10 @@
 // Texts as bytes: lines and words. The meaning is in specs/.
 #![tactic(auto)]
 
-ghost use Rattle.std.specs.Prelude.{length, get_or, drop, [], ◌≡◌, ◌+◌, ◌-◌, ◌≤◌};
+ghost use Rattle.std.specs.Prelude.{length, get_or, drop, [], ◌∷◌, ◌≡◌, ◌+◌, ◌-◌, ◌≤◌};
+ghost use Rattle.std.specs.Iterator.{YieldsFirstRef, item_count};
 ghost use Rattle.text.specs.Text.{equals, parted_by, line_words, lines, no_line, lookup, index_of, among};
+ghost use Rattle.text.specs.HeldWords.{words_left};
 
 // What looking a word up among others comes to: where it stands, and how many of them were looked at.
 #[derive(Clone, Copy)]
@@ -47,23 +49,66 @@ pub fn piece_length(s: &[u8], c: u8) -> usize
     s.len()
 }
 
+// The words of a line that are left, the first of them first.
+#[derive(Drop)]
+pub struct Words<'a> {
+    rest: Option<&'a [u8]>,
+}
+
+// The first word of a line, and what follows its space, if one follows.
+fn cut_word(line: &[u8]) -> (&[u8], Option<&[u8]>)
+    ensures { line_words line.now ≡ result.0.now ∷ words_left result.1 }
+{
+    let end = piece_length(line, b' ');
+    if line.len() <= end {
+        return (line, None);
+    }
+    (&line[..end], Some(&line[end + 1..]))
+}
+
+// The words of a line, as an iterator: `split` looks at the bytes one by one, and this at four in a turn.
+pub fn split_words(line: &[u8]) -> Words<'_>
+    ensures { words_left result.rest ≡ line_words line.now }
+{
+    Words { rest: Some(line) }
+}
+
+impl<'a> Iterator for Words<'a> {
+    type Item = &'a [u8];
+
+    ghost next_gives = { YieldsFirstRef (λ s. words_left s.rest) };
+
+    ghost remaining = { item_count (λ s. words_left s.rest) };
+
+    fn next(&mut self) -> Option<&'a [u8]> {
+        let Some(rest) = self.rest else {
+            return None;
+        };
+        let (word, left) = cut_word(rest);
+        self.rest = left;
+        Some(word)
+    }
+}
+
 // Looks w up among the words of text: where the first stands that is w, and how many words were looked at. It ends there.
 pub fn find(w: &[u8], text: &[u8]) -> Lookup
     ensures { result ≡ lookup w.now (line_words text.now) }
 {
     let mut k = 0;
-    for word in text.split(|c| *c == b' ') {
+    let mut looked = 0;
+    for word in split_words(text) {
+        looked += 1;
         if same(w, word) {
             return Lookup {
                 place: Some(k),
-                looked: k + 1,
+                looked: looked,
             };
         }
         k += 1;
     }
     Lookup {
         place: None,
-        looked: k,
+        looked: looked,
     }
 }
 
@@ -133,14 +178,14 @@ pub fn after_lines(s: &[u8], k: usize) -> &[u8]
 pub fn count_words(line: &[u8]) -> usize
     ensures { result ≡ length (line_words line.now) }
 {
-    line.split(|c| *c == b' ').count()
+    split_words(line).count()
 }
 
 // Word k of a line, counted from 0; no bytes where it has fewer words.
 pub fn word_at(line: &[u8], k: usize) -> &[u8]
     ensures { result.now ≡ get_or (line_words line.now) k [] }
 {
-    line.split(|c| *c == b' ').nth(k).unwrap_or(&[])
+    split_words(line).nth(k).unwrap_or(&[])
 }
 
 // Whether w is one of the words of text.

@@ -1,4 +1,4 @@
--- `file_lines::all_words` meets its contract: `split` gives the words.
+-- `file_lines::all_words` meets its contract: `split_words` gives the words.
 use Rattle.std.proofs.Common.{◌∙◌, rules, tests}
 use Rattle.std.proofs.lemmas.Iterator.Search.{all_from_yields_List}
 use Rattle.text.specs.Text.{line_words}
@@ -10,6 +10,5 @@ use Rattle.file_lines.proofs.all_words.Goals as goal
 pub returns : goal.returns
 returns c =
     let line = c.args.line.now in
-    let p = c.split.ensures in
-    all_from_yields_List (word_test c.args.t) c.all.new.self _ _ c.all.ensures.ran (words-yielded _ line p.rest p.done p.closure (λ x b q k. search (rules, tests))) (λ x b q k. search (rules, tests))
+    all_from_yields_List (word_test c.args.t) c.all.new.self _ _ c.all.ensures.ran (words-yielded line c.split_words.ensures) (λ x b q k. search (rules, tests))
     ∙ list_all-all (word_test c.args.t) (line_words line)

@@ -15,11 +15,9 @@ pub returns : goal.returns
 returns c =
     let line = c.args.line.now in
     let names = c.args.names.now in
-    let p = c.split.ensures in
-    let o = c.split-others.ensures in
     all_from_yields_List (λ (p : List ℕ × List ℕ). equals p.0 p.1) c.all.new.self _ _ c.all.ensures.ran
     (YieldsList-from_zip
-    (YieldsList-at c.zip.ensures.first (words-yielded _ line p.rest p.done p.closure (λ x b q k. search (rules, tests))))
-    (YieldsList-at c.zip.ensures.second (words-yielded _ names o.rest o.done o.closure (λ x b q k. search (rules, tests)))))
+    (YieldsList-at c.zip.ensures.first (words-yielded line c.split_words.ensures))
+    (YieldsList-at c.zip.ensures.second (words-yielded names c.split_words-others.ensures)))
     (λ x b q k. search (rules, tests))
     ∙ leads-pairs (line_words line) (line_words names) (omega arith)

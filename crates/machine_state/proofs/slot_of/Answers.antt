@@ -30,23 +30,23 @@ module _ (ns : List ℕ) (a : Cell) (n : ℕ) where
     unfolding slot ◌>>=◌
     field h g = rw (e, lt-ltb k (length ns) h, lt-ltb n (get_or ns k 0) g)
 
-pub returns-in_err-handled : goal.returns-in_err-handled
-returns-in_err-handled c = c.from_residual.ensures ∙ no-handle _ _ _ (sym c.block.ensures ∙ c.in_err-handled.was)
+pub returns-in_default : goal.returns-in_default
+returns-in_default c = no-handle _ _ _ (sym c.block.ensures ∙ c.in_default.is)
 
 pub returns-then-count_blocks-k : goal.returns-then-count_blocks-k
 returns-then-count_blocks-k c =
-    no_block (sizes_of c.args.code.now) _ _ c.in_ok-handled.handled (sym c.block.ensures ∙ c.in_ok-handled.was) (omega (arith, c.count_blocks.ensures, c.if-count_blocks-k.true))
+    no_block (sizes_of c.args.code.now) _ _ c.in-Some.handled (sym c.block.ensures ∙ c.in-Some.is) (omega (arith, c.count_blocks.ensures, c.if-count_blocks-k.true))
 
 pub size_of-requires : goal.size_of-requires
 size_of-requires c = (c.requires, omega (arith, c.count_blocks.ensures, c.if-count_blocks-k.false))
 
 pub returns-then-size_of-n : goal.returns-then-size_of-n
 returns-then-size_of-n c =
-    no_field (sizes_of c.args.code.now) _ _ c.in_ok-handled.handled (sym c.block.ensures ∙ c.in_ok-handled.was) (omega (arith, c.count_blocks.ensures, c.if-count_blocks-k.false)) (omega (arith, c.size_of.ensures, c.if-size_of-n.true))
+    no_field (sizes_of c.args.code.now) _ _ c.in-Some.handled (sym c.block.ensures ∙ c.in-Some.is) (omega (arith, c.count_blocks.ensures, c.if-count_blocks-k.false)) (omega (arith, c.size_of.ensures, c.if-size_of-n.true))
 
 pub overflow_add-result : goal.overflow_add-result
-overflow_add-result c = omega (arith, c.size_of.ensures, c.if-size_of-n.false, c.requires.sizes c.in_ok-handled.handled)
+overflow_add-result c = omega (arith, c.size_of.ensures, c.if-size_of-n.false, c.requires.sizes c.in-Some.handled)
 
 pub returns : goal.returns
 returns c =
-    field (sizes_of c.args.code.now) _ _ c.in_ok-handled.handled (sym c.block.ensures ∙ c.in_ok-handled.was) (omega (arith, c.count_blocks.ensures, c.if-count_blocks-k.false)) (omega (arith, c.size_of.ensures, c.if-size_of-n.false))
+    field (sizes_of c.args.code.now) _ _ c.in-Some.handled (sym c.block.ensures ∙ c.in-Some.is) (omega (arith, c.count_blocks.ensures, c.if-count_blocks-k.false)) (omega (arith, c.size_of.ensures, c.if-size_of-n.false))
